@@ -1,12 +1,11 @@
 -- What is handed out as a link gets its handle.
-use Rattle.std.proofs.Common.{◌≡◌, ℕ, ◌≤◌, Bool, true, List, [], ◌∷◌, ◌++◌, Option, Some, None, if◌then◌else◌, refl, sym, ap, subst}
-use Rattle.std.proofs.Common.{◌∙◌, eq-eqb}
+use Rattle.std.proofs.Common.{◌≡◌, ℕ, ◌≤◌, Bool, true, List, [], ◌∷◌, ◌++◌, Option, Some, None, Result, Ok, Err, refl, sym}
+use Rattle.std.proofs.Common.{if◌then◌else◌, ap, subst, ◌∙◌, eq-eqb}
 use Rattle.std.specs.FinMap as map
-use Rattle.std.specs.Prelude.{IsSome, is_some}
+use Rattle.std.specs.Prelude.{IfOk, IsSome, OnOk, is_some}
 use Rattle.amqp_session_types.specs.declared.handles.InputHandle.{InputHandle}
 use Rattle.amqp_session_types.specs.declared.handles.OutputHandle.{OutputHandle}
 use Rattle.amqp_session_performatives.specs.declared.attach.Attach.{Attach}
-use Rattle.amqp_session_performatives.specs.declared.link_flow.LinkFlow.{LinkFlow}
 use Rattle.amqp_session_performatives.specs.declared.session_frame.SessionFrame.{SessionFrame}
 use Rattle.amqp_session_performatives.specs.declared.session_frame.SessionFrameBody.TheVariants as body
 use Rattle.amqp_session_outgoing.specs.Queues.{room_behind}
@@ -21,19 +20,19 @@ use Rattle.amqp_session_core.specs.Steps.{Step, Allocates}
 use Rattle.amqp_link.specs.Ends.{state_of, with_handle}
 use Rattle.amqp_link.specs.Preparing.{carried_out}
 use Rattle.amqp_link.specs.declared.end.End.{End}
-use Rattle.amqp_link.specs.declared.preparing.PreparedAttach.{PreparedAttach}
 use Rattle.amqp_link_sender.specs.declared.attaching.Attaching.{Attaching}
 use Rattle.amqp_endpoint_links.specs.declared.links.AskedLink.{AskedLink}
 use Rattle.amqp_endpoint_links.specs.declared.numbered.Numbered.{Numbered}
-use Rattle.amqp_endpoint_attached.proofs.OwnAttach.{answers_plain, takes_plain}
 use Rattle.amqp_endpoint_attached.proofs.Owned.{given, given_by, owned, owned_by, some_is}
 use Rattle.amqp_endpoint_attached.proofs.Taking.{planned}
-use Rattle.amqp_endpoint_attached.specs.Answering.{Answers, Exchanges, IsReady, Replies, SaysAll, Takes, TakesAll}
-use Rattle.amqp_endpoint_attached.specs.Answering.{flowed_by, reply_to}
+use Rattle.amqp_endpoint_attached.specs.Answering.{Answers, Exchanges, IsPrepared, IsReady, SaysAll, Takes, TakesAll}
 use Rattle.amqp_endpoint_attached.specs.Attaching.{Attaches, SendsIn}
 use Rattle.amqp_endpoint_attached.specs.Linked.{Linked, LinksIn, gives}
 use Rattle.amqp_endpoint_attached.specs.Links.{Announces, attach_frame, attach_sent, is_at_rest, offered, with_number}
+use Rattle.amqp_endpoint_attached.specs.Refusals.{IsOffered, test_failed}
 use Rattle.amqp_endpoint_attached.specs.declared.answering.Answered.{Answered}
+use Rattle.amqp_endpoint_attached.specs.declared.exchanging.PreparedAnswer.{PreparedAnswer}
+use Rattle.amqp_endpoint_attached.specs.declared.refusal.AttachRefusal.{AttachRefusal}
 
 abbrev Side : Type 0
 Side = sending.State TransferFrame BehindFrame
@@ -100,71 +99,68 @@ attached old new given_to out room out_new limit number link handle attach annou
     }
 
 -- what a link comes to that answers an asked one
-exchanged : (limit : ℕ) (old new : End) (asked : AskedLink) (handle : OutputHandle) (prepared : PreparedAttach)
-    (attach : Attach) (flow reply : Option LinkFlow) (attaching : Attaching) → is_at_rest (state_of old) ≡ true
-    → IsReady limit old asked handle prepared attach flow
-    → TakesAll old handle prepared attach.incomplete_unsettled flow attaching reply new
-    → Exchanges limit old asked handle attaching attach reply new
-exchanged limit old new asked handle prepared attach flow reply attaching rest ready takes =
+exchanged : (limit : ℕ) (old new : End) (asked : AskedLink) (handle : OutputHandle) (ready : PreparedAnswer)
+    (attaching : Attaching) → is_at_rest (state_of old) ≡ true → IsReady limit old asked handle ready
+    → TakesAll old handle ready.taken ready.attach.incomplete_unsettled attaching new
+    → Exchanges limit old asked handle attaching ready.attach new
+exchanged limit old new asked handle ready attaching rest is takes =
     record {
-      taken = carried_out old prepared;
-      attached = takes.attached;
+      taken = carried_out old ready.taken;
       takes =
-          subst (λ (a : Attaching). Takes old asked.attach a (carried_out old prepared)) (sym takes.left)
-          (planned old asked.attach prepared rest ready.planned).takes;
-      announces = ready.announces;
+          subst (λ (a : Attaching). Takes old asked.attach a (carried_out old ready.taken)) (sym takes.left)
+          (planned old asked.attach ready.taken rest is.planned).takes;
+      announces = is.announces;
       sent = takes.sent;
-      flows =
-          takes.flows ∙ ap (λ (f : Option LinkFlow). flowed_by takes.attached f) ready.kept
-          ∙ takes_plain takes.attached asked.flow;
-      replies =
-          takes.replies ∙ ap (λ (f : Option LinkFlow). reply_to takes.attached f) ready.kept
-          ∙ answers_plain takes.attached asked.flow;
     }
 
 -- a link that answers an asked one
-pub answered : (old new : Linked) (given_to : LinksIn) (out room out_new : List SessionFrame) (limit number : ℕ)
-    (link : End) (input : InputHandle) (asked : AskedLink) (handle : OutputHandle) (prepared : PreparedAttach)
-    (attach : Attach) (flow : Option LinkFlow) (told : Answered) → is_at_rest (state_of link) ≡ true
-    → map.get old.asked input.0 ≡ Some asked
-    → IsReady limit link asked (offered old.session) prepared attach flow
+pub answered : (old new : Linked) (given_to : LinksIn) (out out_new : List SessionFrame) (limit number : ℕ)
+    (link : End) (input : InputHandle) (handle : OutputHandle) (ready : PreparedAnswer) (told : Answered)
+    → is_at_rest (state_of link) ≡ true → IsPrepared limit old link input ready
     → Step gives old.session (Allocates handle.0 (with_number number link) (Some input.0)) given_to
-    → new ≡ record old { session = new.session; asked = map.remove old.asked input.0 } → room ≡ out
-    → SaysAll given_to room handle prepared attach flow told new.session out_new
+    → new ≡ record old { session = new.session; asked = map.remove old.asked input.0 }
+    → SaysAll given_to out handle ready told new.session out_new
     → Answers old out limit number link input told new out_new
-answered old new given_to out room out_new limit number link input asked handle prepared attach flow told rest there
-    ready step others kept says =
+answered old new given_to out out_new limit number link input handle ready told rest prepared step others says =
     let takes = says.takes in
     let stands : Some (with_number number link) ≡ Some (with_number takes.number takes.before) =
     sym (given_by gives old.session given_to handle.0 (with_number number link) input.0 step) ∙ takes.changed.0 in
     let same = some_is (with_number number link) (with_number takes.number takes.before) stands in
     let step_new =
-    owned_by gives old.session given_to says.mid handle.0 (with_number number link)
+    owned_by gives old.session given_to new.session handle.0 (with_number number link)
     (with_number takes.number takes.before) (with_number takes.number takes.after) takes.changed input.0 step in
     subst (λ (a : Answered). Answers old out limit number link input a new out_new) (sym says.told)
     (record {
-      asked = asked;
-      is_asked = there;
-      attach = attach;
-      reply = says.reply;
+      asked = prepared.asked;
+      is_asked = prepared.is_asked;
+      attach = ready.attach;
       becomes = takes.after;
       exchanges =
-          exchanged limit link takes.after asked handle prepared attach flow says.reply says.attaching rest
-          (subst (λ (h : OutputHandle). IsReady limit link asked h prepared attach flow)
-          (sym (numbered handle old.session.offered step.1)) ready)
-          (subst (λ (e : End). TakesAll e handle prepared attach.incomplete_unsettled flow says.attaching says.reply
-          takes.after) (sym (ap (λ (n : Numbered End). n.link) same)) takes.takes);
-      mid = says.mid;
+          exchanged limit link takes.after prepared.asked handle ready says.attaching rest
+          (subst (λ (h : OutputHandle). IsReady limit link prepared.asked h ready)
+          (sym (numbered handle old.session.offered step.1)) prepared.is)
+          (subst
+          (λ (e : End).
+          TakesAll e handle ready.taken ready.attach.incomplete_unsettled says.attaching takes.after)
+          (sym (ap (λ (n : Numbered End). n.link) same)) takes.takes);
       allocates =
-          subst (λ (n : ℕ). Step gives old.session (Allocates handle.0 (with_number n takes.after) (Some input.0)) says.mid)
+          subst
+          (λ (n : ℕ).
+          Step gives old.session (Allocates handle.0 (with_number n takes.after) (Some input.0)) new.session)
           (sym (ap (λ (n : Numbered End). n.number) same)) step_new;
-      replies =
-          subst (λ (fs : List SessionFrame). Replies gives handle says.reply says.mid fs new.session out_new)
-          (ap (λ (fs : List SessionFrame). fs ++ attach_frame says.mid attach ∷ []) kept
-          ∙ ap (λ (f : SessionFields). out ++ frame_in f attach ∷ [])
-          (same_fields gives old.session says.mid handle.0 (with_number takes.number takes.after) input.0 step_new))
-          says.replies;
+      kept = prepared.is.kept;
       rest = others;
+      handed =
+          says.handed
+          ∙ ap (λ (f : SessionFields). out ++ frame_in f ready.attach ∷ [])
+          (same_fields gives old.session new.session handle.0 (with_number takes.number takes.after) input.0 step_new);
     })
 
-pub ruleset rules = (is_there, has_place, attached, answered)
+-- what is made ready for a link that answers an asked one
+pub prepared : (limit : ℕ) (s : Linked) (link : End) (input : InputHandle) (asked : AskedLink)
+    (r : Result PreparedAnswer AttachRefusal) → Some asked ≡ map.get s.asked input.0
+    → IfOk r (IsReady limit link asked (offered s.session))
+    → OnOk r (IsOffered s.session × (test_failed link asked.attach ≡ None)) → IfOk r (IsPrepared limit s link input)
+prepared limit s link input asked (Ok ready) there is passes =
+    record { asked = asked; is_asked = sym there; is = is; offers = passes.0; passes = passes.1 }
+prepared limit s link input asked (Err e) there is passes = tt

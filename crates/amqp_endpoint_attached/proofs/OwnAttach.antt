@@ -1,8 +1,7 @@
--- The own Attach is sent where the link's state allows it, and a Flow is taken whatever its properties are.
+-- The own Attach is sent where the link's state allows it.
 use Rattle.std.proofs.Common.{◌≡◌, Bool, true, false, Option, Some, None, option_map, Result, refl, sym, ap, subst, ◌∙◌}
 use Rattle.std.specs.Prelude.{IsSome}
 use Rattle.amqp_session_types.specs.declared.handles.OutputHandle.{OutputHandle}
-use Rattle.amqp_session_performatives.specs.declared.link_flow.LinkFlow.{LinkFlow}
 use Rattle.amqp_link_base.specs.State.{after_send_attach}
 use Rattle.amqp_link_base.specs.declared.state.LinkState.{LinkState}
 use Rattle.amqp_link_base.specs.declared.state.LinkState.TheVariants.{Unattached, AttachSent, IncompleteAttachSent}
@@ -12,7 +11,7 @@ use Rattle.amqp_link_base.specs.declared.state.LinkState.TheVariants.{Detached, 
 use Rattle.amqp_link_base.specs.Moves.{sent_attach}
 use Rattle.amqp_link_base.specs.declared.base.IllegalState.{IllegalState}
 use Rattle.amqp_link_base.specs.declared.base.LinkBase.{LinkBase}
-use Rattle.amqp_link.specs.Ends.{flow_answer, flowed, state_of, with_handle}
+use Rattle.amqp_link.specs.Ends.{state_of, with_handle}
 use Rattle.amqp_link.specs.declared.end.End.{End}
 use Rattle.amqp_link.specs.declared.end.End.TheVariants.{Sender, Receiver}
 use Rattle.amqp_link_base.specs.Flows.{attached}
@@ -20,7 +19,6 @@ use Rattle.amqp_link_receiver.specs.Attaching as receiver
 use Rattle.amqp_link_receiver.specs.State.{ReceiverState, MovesLink as MovesReceiver}
 use Rattle.amqp_link_sender.specs.Attaching as sender
 use Rattle.amqp_link_sender.specs.Sending.{Sending, MovesLink as MovesSender}
-use Rattle.amqp_endpoint_attached.specs.Answering.{flowed_by, plain, reply_to}
 use Rattle.amqp_endpoint_attached.specs.Links.{attach_sent}
 
 -- a state that allows an Attach allows one with a part of the list, too
@@ -92,22 +90,5 @@ module _ (link : End) (handle : OutputHandle) (incomplete : Bool) (answer : Resu
       ap (λ (x : End). attach_sent x incomplete) is
       ∙ ap (λ (o : Option ReceiverState). option_map Receiver o)
       (receiver_moves (receiver.attach_sent s incomplete) s t answer some moves)
-
-plain_flowed : (link : End) (flow : LinkFlow) → flowed link (plain flow) ≡ flowed link flow
-plain_flowed (Sender s) flow = refl
-plain_flowed (Receiver r) flow = refl
-
-plain_answered : (link : End) (flow : LinkFlow) → flow_answer link (plain flow) ≡ flow_answer link flow
-plain_answered (Sender s) flow = refl
-plain_answered (Receiver r) flow = refl
-
--- what was kept of a Flow is taken whatever its properties were
-pub takes_plain : (link : End) (kept : Option LinkFlow) → flowed_by link (option_map plain kept) ≡ flowed_by link kept
-takes_plain link None = refl
-takes_plain link (Some flow) = plain_flowed link flow
-
-pub answers_plain : (link : End) (kept : Option LinkFlow) → reply_to link (option_map plain kept) ≡ reply_to link kept
-answers_plain link None = refl
-answers_plain link (Some flow) = plain_answered link flow
 
 pub ruleset rules = (sender_sends, receiver_sends)

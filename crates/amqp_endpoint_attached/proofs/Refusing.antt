@@ -16,6 +16,7 @@ use Rattle.amqp_endpoint_attached.specs.Attaching.{RefusesAttach}
 use Rattle.amqp_endpoint_attached.specs.Linked.{Linked}
 use Rattle.amqp_endpoint_attached.specs.Links.{offered}
 use Rattle.amqp_endpoint_attached.specs.Refusals.{IsOffered, RefusesHandle, RefusesOwn, RefusesPeer, refusal_of, test_failed}
+use Rattle.amqp_endpoint_attached.specs.declared.exchanging.PreparedAnswer.{PreparedAnswer}
 use Rattle.amqp_endpoint_attached.specs.declared.refusal.AttachRefusal.{AttachRefusal}
 use Rattle.amqp_endpoint_attached.specs.declared.refusal.AttachRefusal.TheVariants.{HandleMaxReached, HandleInUse, Link, FrameTooLarge, Memory}
 
@@ -97,28 +98,18 @@ module _ {R : Type 0} (limit : ℕ) (s : State R) (link : End) (asked : AskedLin
       (given, passes, subst (λ (h : OutputHandle). RefusesOwn limit link h FrameTooLarge) is r)
   behind_refused handle Memory is given passes r = given
 
-  no_room : (e : AttachRefusal) → IsOffered s → e ≡ Memory → RefusesExchange limit s link asked e
-  no_room e given is = subst (λ (x : AttachRefusal). RefusesExchange limit s link asked x) (sym is) given
-
-  -- by its tests, or else by its own Attach, or for want of room
-  pub exchange_refused : {A P : Type 0} (handle : OutputHandle) (taken : Result A AttachRefusal)
-      (own : Result Attach AttachRefusal) (room : Result P AttachRefusal) (both : Result (Attach × P) AttachRefusal)
-      (e : AttachRefusal) → handle ≡ offered s → IsOffered s → IfErr taken (RefusesPeer link asked.attach)
-      → OnOk taken (test_failed link asked.attach ≡ None) → IfErr own (RefusesOwn limit link handle)
-      → IfErr room (λ r. r ≡ Memory) → IfErr both (λ r. (own ≡ Err r) ⊎ (IsOk own × (room ≡ Err r)))
-      → (taken ≡ Err e) ⊎ (IsOk taken × (both ≡ Err e)) → RefusesExchange limit s link asked e
-  exchange_refused handle taken own room both e is given peer passes mine rooms of (inl fails) =
+  -- by its tests, or else by its own Attach
+  pub exchange_refused : {A : Type 0} (handle : OutputHandle) (taken : Result A AttachRefusal)
+      (own : Result Attach AttachRefusal) (e : AttachRefusal) → handle ≡ offered s → IsOffered s
+      → IfErr taken (RefusesPeer link asked.attach) → OnOk taken (test_failed link asked.attach ≡ None)
+      → IfErr own (RefusesOwn limit link handle) → (taken ≡ Err e) ⊎ (IsOk taken × (own ≡ Err e))
+      → RefusesExchange limit s link asked e
+  exchange_refused handle taken own e is given peer passes mine (inl fails) =
       peer_refused e given
       (subst (λ (t : Result _ AttachRefusal). IfErr t (RefusesPeer link asked.attach)) fails peer)
-  exchange_refused handle taken own room both e is given peer passes mine rooms of (inr (ok, fails)) =
-      by (subst (λ (b : Result _ AttachRefusal). IfErr b (λ r. (own ≡ Err r) ⊎ (IsOk own × (room ≡ Err r)))) fails of)
-    where
-      by : (own ≡ Err e) ⊎ (IsOk own × (room ≡ Err e)) → RefusesExchange limit s link asked e
-      by (inl lacks) =
-          behind_refused handle e is given (on_ok (test_failed link asked.attach ≡ None) taken passes ok)
-          (subst (λ (o : Result Attach AttachRefusal). IfErr o (RefusesOwn limit link handle)) lacks mine)
-      by (inr (fine, lacks)) =
-          no_room e given (subst (λ (o : Result _ AttachRefusal). IfErr o (λ r. r ≡ Memory)) lacks rooms)
+  exchange_refused handle taken own e is given peer passes mine (inr (ok, lacks)) =
+      behind_refused handle e is given (on_ok (test_failed link asked.attach ≡ None) taken passes ok)
+      (subst (λ (o : Result Attach AttachRefusal). IfErr o (RefusesOwn limit link handle)) lacks mine)
 
 module _ (limit : ℕ) (s : Linked) (link : End) (input : InputHandle) (asked : AskedLink)
     (there : map.get s.asked input.0 ≡ Some asked) where
@@ -132,7 +123,13 @@ module _ (limit : ℕ) (s : Linked) (link : End) (input : InputHandle) (asked : 
       (given, ap (λ (o : Option AskedLink). asked_failed link o) there ∙ passes, fits)
   exchanged_refused Memory r = r
 
-  none_left : (e : AttachRefusal) → IsOffered s.session → test_failed link asked.attach ≡ None
+  pub prepared_refused : (r : Result PreparedAnswer AttachRefusal)
+      → IfErr r (RefusesExchange limit s.session link asked) → IfErr r (RefusesAnswer limit s link input)
+  prepared_refused (Ok ready) refuses = tt
+  prepared_refused (Err e) refuses = exchanged_refused e refuses
+
+  -- or by what the peer's handle leads to, where all else is ready
+  pub none_left : (e : AttachRefusal) → IsOffered s.session → test_failed link asked.attach ≡ None
       → RefusesHandle s.session (Some input.0) e → RefusesAnswer limit s link input e
   none_left HandleMaxReached given passes r = r
   none_left HandleInUse given passes r =
@@ -141,15 +138,4 @@ module _ (limit : ℕ) (s : Linked) (link : End) (input : InputHandle) (asked : 
   none_left FrameTooLarge given passes r = absurd r
   none_left Memory given passes r = r
 
-  pub answer_refused : {M : Type 0} (made : Result M AttachRefusal) (e : AttachRefusal)
-      → IfErr made (RefusesExchange limit s.session link asked)
-      → OnOk made (IsOffered s.session × (test_failed link asked.attach ≡ None))
-      → (made ≡ Err e) ⊎ (IsOk made × RefusesHandle s.session (Some input.0) e) → RefusesAnswer limit s link input e
-  answer_refused made e refuses passes (inl is) =
-      exchanged_refused e
-      (subst (λ (m : Result _ AttachRefusal). IfErr m (RefusesExchange limit s.session link asked)) is refuses)
-  answer_refused made e refuses passes (inr (ok, r)) =
-      let so = on_ok (IsOffered s.session × (test_failed link asked.attach ≡ None)) made passes ok in
-      none_left e so.0 so.1 r
-
-pub ruleset rules = (handle_refused, input_refused, own_refused, attach_refused, exchange_refused, answer_refused)
+pub ruleset rules = (handle_refused, input_refused, own_refused, attach_refused, exchange_refused)

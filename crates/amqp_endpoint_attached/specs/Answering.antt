@@ -1,5 +1,5 @@
 -- A link attaches that answers one that the peer asks for (part 2, 2.6.3).
-use Rattle.std.specs.Prelude.{◌≡◌, ℕ, ◌<◌, Bool, List, [], ◌∷◌, ◌++◌, Option, Some, None, option_map, option_to_list, Ok}
+use Rattle.std.specs.Prelude.{◌≡◌, ℕ, ◌<◌, Bool, List, [], ◌∷◌, ◌++◌, Option, Some, None, option_map, Ok}
 use Rattle.std.specs.Prelude.{IsSome}
 use Rattle.std.specs.FinMap as map
 use Rattle.amqp_session_types.specs.declared.handles.InputHandle.{InputHandle}
@@ -7,13 +7,10 @@ use Rattle.amqp_session_types.specs.declared.handles.OutputHandle.{OutputHandle}
 use Rattle.amqp_session_performatives.specs.declared.attach.Attach.{Attach}
 use Rattle.amqp_session_performatives.specs.declared.link_flow.LinkFlow.{LinkFlow}
 use Rattle.amqp_session_performatives.specs.declared.session_frame.SessionFrame.{SessionFrame}
-use Rattle.amqp_session_core.specs.declared.batch.BehindFrame.TheVariants as behind
-use Rattle.amqp_session_core.specs.Relay.{Relations}
 use Rattle.amqp_session_core.specs.State.{State}
 use Rattle.amqp_session_core.specs.Steps.{Step, Allocates, Changes}
-use Rattle.amqp_session_core.specs.Told.{BehindSent}
 use Rattle.amqp_link_types.specs.declared.link_error.LinkError.{LinkError}
-use Rattle.amqp_link.specs.Ends.{flow_answer, flowed, with_handle}
+use Rattle.amqp_link.specs.Ends.{with_handle}
 use Rattle.amqp_link.specs.Gives.{attaches}
 use Rattle.amqp_link.specs.Preparing.{attach_planned, carried_out, left_by}
 use Rattle.amqp_link.specs.declared.end.End.{End}
@@ -26,6 +23,7 @@ use Rattle.amqp_endpoint_attached.specs.Linked.{Linked, LinksIn, gives}
 use Rattle.amqp_endpoint_attached.specs.Links.{Announces, FitsNoFrame, attach_frame, attach_sent, offered, with_number}
 use Rattle.amqp_endpoint_attached.specs.Refusals.{IsOffered, outcome, test_failed}
 use Rattle.amqp_endpoint_attached.specs.declared.answering.Answered.{Answered}
+use Rattle.amqp_endpoint_attached.specs.declared.exchanging.PreparedAnswer.{PreparedAnswer}
 use Rattle.amqp_endpoint_attached.specs.declared.refusal.AttachRefusal.{AttachRefusal}
 use Rattle.amqp_endpoint_attached.specs.declared.refusal.AttachRefusal.TheVariants.{HandleMaxReached, HandleInUse, Link}
 use Rattle.amqp_endpoint_attached.specs.declared.refusal.AttachRefusal.TheVariants.{FrameTooLarge, Memory}
@@ -64,27 +62,14 @@ pub record Takes (old : End) (attach : Attach) (attaching : Attaching) (new : En
   pub takes : attaches old attach (Ok told) new
   pub accepts : outcome told ≡ Ok attaching
 
--- what was kept of a Flow is taken, if one came
-abbrev pub flowed_by : End → Option LinkFlow → End
-flowed_by link None = link
-flowed_by link (Some flow) = flowed link flow
-
--- the Flow that it is answered with, if it wants an answer
-abbrev pub reply_to : End → Option LinkFlow → Option LinkFlow
-reply_to link None = None
-reply_to link (Some flow) = flow_answer link flow
-
 -- a link answers the asked one: it takes the peer's Attach, its own is written of it as it was before, and sent under
--- this handle, and then what was kept of a Flow is taken
+-- this handle
 pub record Exchanges (limit : ℕ) (old : End) (asked : AskedLink) (handle : OutputHandle) (attaching : Attaching)
-    (attach : Attach) (reply : Option LinkFlow) (new : End) : Type 0 where
+    (attach : Attach) (new : End) : Type 0 where
   pub taken : End
-  pub attached : End
   pub takes : Takes old asked.attach attaching taken
   pub announces : Announces limit old handle attach
-  pub sent : attach_sent (with_handle taken handle) attach.incomplete_unsettled ≡ Some attached
-  pub flows : new ≡ flowed_by attached asked.flow
-  pub replies : reply ≡ reply_to attached asked.flow
+  pub sent : attach_sent (with_handle taken handle) attach.incomplete_unsettled ≡ Some new
 
 -- no link takes the properties of a Flow
 abbrev pub plain : LinkFlow → LinkFlow
@@ -92,71 +77,70 @@ plain flow = record flow { properties = None }
 
 -- this was made ready for a link that answers the asked one: what the peer's Attach makes of it, its own Attach under
 -- this handle, written of the link as it was before, and what was kept of a Flow
-pub record IsReady (limit : ℕ) (link : End) (asked : AskedLink) (handle : OutputHandle) (prepared : PreparedAttach)
-    (attach : Attach) (flow : Option LinkFlow) : Type 0 where
-  pub planned : attach_planned link asked.attach ≡ Ok prepared
-  pub announces : Announces limit link handle attach
-  pub kept : flow ≡ option_map plain asked.flow
+pub record IsReady (limit : ℕ) (link : End) (asked : AskedLink) (handle : OutputHandle) (ready : PreparedAnswer)
+    : Type 0 where
+  pub planned : attach_planned link asked.attach ≡ Ok ready.taken
+  pub announces : Announces limit link handle ready.attach
+  pub kept : ready.kept ≡ option_map plain asked.flow
 
--- a link comes to what was made ready, sends its own Attach under this handle, and takes what was kept of a Flow
+-- what the peer's Attach makes of the link, which answers the asked one with this handle, is this
+pub record IsTakenSo (s : Linked) (link : End) (input : InputHandle) (taken : PreparedAttach) : Type 0 where
+  pub asked : AskedLink
+  pub is_asked : map.get s.asked input.0 ≡ Some asked
+  pub planned : attach_planned link asked.attach ≡ Ok taken
+
+-- and that is ready with which it answers it under the handle that is offered: one is offered, and no test fails
+pub record IsPrepared (limit : ℕ) (s : Linked) (link : End) (input : InputHandle) (ready : PreparedAnswer)
+    : Type 0 where
+  pub asked : AskedLink
+  pub is_asked : map.get s.asked input.0 ≡ Some asked
+  pub is : IsReady limit link asked (offered s.session) ready
+  pub offers : IsOffered s.session
+  pub passes : test_failed link asked.attach ≡ None
+
+-- a link comes to what was made ready, and sends its own Attach under this handle
 pub record TakesAll (old : End) (handle : OutputHandle) (prepared : PreparedAttach) (incomplete : Bool)
-    (flow : Option LinkFlow) (attaching : Attaching) (reply : Option LinkFlow) (new : End) : Type 0 where
-  pub attached : End
-  pub sent : attach_sent (with_handle (carried_out old prepared) handle) incomplete ≡ Some attached
-  pub flows : new ≡ flowed_by attached flow
-  pub replies : reply ≡ reply_to attached flow
+    (attaching : Attaching) (new : End) : Type 0 where
+  pub sent : attach_sent (with_handle (carried_out old prepared) handle) incomplete ≡ Some new
   pub left : attaching ≡ left_by prepared
 
 -- one of a session does
 pub record TakesIn (old : LinksIn) (handle : OutputHandle) (prepared : PreparedAttach) (incomplete : Bool)
-    (flow : Option LinkFlow) (attaching : Attaching) (reply : Option LinkFlow) (new : LinksIn) : Type 0 where
+    (attaching : Attaching) (new : LinksIn) : Type 0 where
   pub number : ℕ
   pub before : End
   pub after : End
-  pub takes : TakesAll before handle prepared incomplete flow attaching reply after
+  pub takes : TakesAll before handle prepared incomplete attaching after
   pub changed : Step gives old (Changes handle.0 (with_number number before) (with_number number after)) new
 
-module _ {R A T D : Type 0} (given : Relations R A T D) where
-  -- a link sends a Flow, which leaves at once where nothing of the link waits
-  pub record SendsFlow (handle : OutputHandle) (flow : LinkFlow) (old : State R) (out : List SessionFrame)
-      (new : State R) (out_new : List SessionFrame) : Type 0 where
-    pub frame : Option SessionFrame
-    pub sent : BehindSent given old handle (behind.Flow (record flow { handle = record { 0 = handle.0 } })) frame new
-    pub handed : out_new ≡ out ++ option_to_list frame
-
-  -- a link replies with a Flow, or with none
-  abbrev pub Replies : OutputHandle → Option LinkFlow → State R → List SessionFrame → State R → List SessionFrame
-      → Type 0
-  Replies handle None old out new out_new = (new ≡ old) × (out_new ≡ out)
-  Replies handle (Some flow) old out new out_new = SendsFlow handle flow old out new out_new
-
--- and what it says is handed out: its Attach, and behind that the Flow with which it replies
-pub record SaysAll (old : LinksIn) (out : List SessionFrame) (handle : OutputHandle) (prepared : PreparedAttach)
-    (attach : Attach) (flow : Option LinkFlow) (answered : Answered) (new : LinksIn) (out_new : List SessionFrame)
-    : Type 0 where
+-- and its Attach is handed out
+pub record SaysAll (old : LinksIn) (out : List SessionFrame) (handle : OutputHandle) (ready : PreparedAnswer)
+    (answered : Answered) (new : LinksIn) (out_new : List SessionFrame) : Type 0 where
   pub attaching : Attaching
-  pub reply : Option LinkFlow
-  pub mid : LinksIn
-  pub takes : TakesIn old handle prepared attach.incomplete_unsettled flow attaching reply mid
-  pub told : answered ≡ record { handle = handle; exchange = attaching.exchange; aborts = attaching.aborts }
-  pub replies : Replies gives handle reply mid (out ++ attach_frame mid attach ∷ []) new out_new
+  pub takes : TakesIn old handle ready.taken ready.attach.incomplete_unsettled attaching new
+  pub told : answered ≡ record {
+    handle = handle;
+    exchange = attaching.exchange;
+    aborts = attaching.aborts;
+    kept = ready.kept;
+  }
+  pub handed : out_new ≡ out ++ attach_frame new ready.attach ∷ []
 
--- what is told of the answer: the handle that the link got, and what is left to be done
+-- what is told of the answer: what is left to be done
 abbrev pub left_to_do : Answered → Attaching
 left_to_do answered = record { exchange = answered.exchange; aborts = answered.aborts }
 
 -- the link answers the asked one with this handle, and gets the handle that is offered; its Attach is handed out, and
--- behind it the Flow with which it replies
+-- what was kept of a Flow is left to be taken
 pub record Answers (old : Linked) (out : List SessionFrame) (limit number : ℕ) (link : End) (input : InputHandle)
     (answered : Answered) (new : Linked) (out_new : List SessionFrame) : Type 0 where
   pub asked : AskedLink
   pub is_asked : map.get old.asked input.0 ≡ Some asked
   pub attach : Attach
-  pub reply : Option LinkFlow
   pub becomes : End
-  pub exchanges : Exchanges limit link asked answered.handle (left_to_do answered) attach reply becomes
-  pub mid : State (Numbered End)
-  pub allocates : Step gives old.session (Allocates answered.handle.0 (with_number number becomes) (Some input.0)) mid
-  pub replies :
-      Replies gives answered.handle reply mid (out ++ attach_frame old.session attach ∷ []) new.session out_new
+  pub exchanges : Exchanges limit link asked answered.handle (left_to_do answered) attach becomes
+  pub allocates :
+      Step gives old.session (Allocates answered.handle.0 (with_number number becomes) (Some input.0)) new.session
+  pub kept : answered.kept ≡ option_map plain asked.flow
   pub rest : new ≡ record old { session = new.session; asked = map.remove old.asked input.0 }
+  pub handed : out_new ≡ out ++ attach_frame old.session attach ∷ []

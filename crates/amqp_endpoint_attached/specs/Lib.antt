@@ -8,3 +8,4 @@ pub mod Links
 pub mod Refusals
 pub mod Attaching
 pub mod Answering
+pub mod Kept

@@ -2,7 +2,7 @@
 //! the peer asks for; the credit that it gives; how it is detached, and how it leaves its session.
 //!
 //! What each call does says specs/: Attaching and Answering, with what they are refused for in Refusals; Receiving,
-//! Detaching, TakenOut and Ends; what is sent for a link, Sent.
+//! Detaching, TakenOut and Ends; what is sent for a link, Sent, and what was kept of a Flow, Kept.
 #![tactic(auto)]
 
 mod announcing;
@@ -11,6 +11,7 @@ mod attaching;
 mod detaching;
 mod ends;
 mod exchanging;
+mod flowing;
 pub mod laws;
 mod leaving;
 mod making;
@@ -24,6 +25,8 @@ pub use answering::{Answered, answer};
 pub use attaching::attach;
 pub use detaching::{answer_detach, detach, detach_placed};
 pub use ends::{break_off, credit, is_closed, role, stands};
+pub use exchanging::{PreparedAnswer, prepare_answer};
+pub use flowing::take_kept;
 pub use leaving::take_out;
 pub use making::{receiver, sender};
 pub use receiving::{drain, grant};

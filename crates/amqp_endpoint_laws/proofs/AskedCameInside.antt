@@ -13,18 +13,17 @@ use Rattle.amqp_session_performatives.specs.declared.session_frame.SessionFrame.
 use Rattle.amqp_session_performatives.specs.declared.session_frame.SessionFrameBody.{SessionFrameBody}
 use Rattle.amqp_session_performatives.specs.declared.session_frame.SessionFrameBody.TheVariants as said
 use Rattle.amqp_session_core.specs.State.{link_at}
+use Rattle.amqp_session_core.specs.Tables.{RouteTable}
 use Rattle.amqp_session_core.specs.Steps.{Act, Allocates, Step}
 use Rattle.amqp_session_core.specs.declared.batch.BehindFrame.TheVariants as behind
 use Rattle.amqp_session_core.specs.declared.dispositions.Touched.{Touched}
 use Rattle.amqp_link_base.specs.declared.detached.Detached.{Detached}
-use Rattle.amqp_link_base.specs.declared.exchange.AttachExchange.{AttachExchange}
 use Rattle.amqp_link.specs.declared.end.End.{End}
 use Rattle.amqp_link.specs.declared.relay.AttachTold.{AttachTold}
 use Rattle.amqp_link_receiver.specs.declared.answer.Told.{Told}
 use Rattle.amqp_endpoint_links.specs.Asked.{Asked}
 use Rattle.amqp_endpoint_links.specs.declared.links.AskedLink.{AskedLink}
 use Rattle.amqp_session_types.proofs.Tables.{get-take, get-take-other}
-use Rattle.amqp_endpoint_attached.specs.Answering.{Replies}
 use Rattle.amqp_endpoint_attached.specs.Detaching.{is_there}
 use Rattle.amqp_endpoint_attached.specs.Linked.{Linked, LinksIn, end_at, gives}
 use Rattle.amqp_endpoint_attached.specs.Links.{with_number}
@@ -47,8 +46,10 @@ use Rattle.amqp_endpoint_links.proofs.Routing.{none-stays}
 use Rattle.amqp_endpoint_model.specs.declared.call.Disposal.{Disposal}
 use Rattle.amqp_endpoint_model.specs.declared.call.Sending.{Sending}
 use Rattle.amqp_endpoint_model.specs.declared.event.Event.{Event}
-use Rattle.amqp_endpoint_laws.proofs.BehindAttach.{Behind, behind-rests}
-use Rattle.amqp_endpoint_laws.proofs.HoldingDone.{closes-stays, closing-stays, detaches-stay, disposes-all, disposes-one}
+use Rattle.amqp_endpoint_laws.proofs.AttachedBehind.{allocates, asked-is, goes, roomed}
+use Rattle.amqp_endpoint_laws.proofs.BehindAttach.{Behind, behind-rests, behind-routes}
+use Rattle.amqp_endpoint_laws.proofs.HoldingDone.{closes-stays, closing-stays, detaches-stay, disposes-all}
+use Rattle.amqp_endpoint_laws.proofs.HoldingDone.{disposes-one}
 use Rattle.amqp_endpoint_laws.proofs.HoldingDone.{drains-stays, echoes-stay, failing-stays, gives-stays, leave-stay}
 use Rattle.amqp_endpoint_laws.proofs.HoldingDone.{parts-stay, remembers-stays, sends-stays, tells-stays}
 use Rattle.amqp_endpoint_laws.proofs.HoldingInside.{LeadsLess, behind-stays, less}
@@ -233,37 +234,27 @@ disposes-one-keeps limit message disposal handle before after frames d =
 
 -- a link attaches: it answers one that is asked for, which is so no longer, or none
 module _ (before after : Linked) (limit : ℕ) (link : End) (placed : Placed) (frames : List SessionFrame) where
-  replies-lead : (reply : Option LinkFlow) (mid : LinksIn) (out : List SessionFrame)
-      → Replies gives placed.handle reply mid out after.session frames → (theirs : ℕ)
-      → map.get mid.routes theirs ≡ None → map.get after.session.routes theirs ≡ None
-  replies-lead None mid out r theirs none = ap (λ (s : LinksIn). map.get s.routes theirs) r.0 ∙ none
-  replies-lead (Some flow) mid out r theirs none =
-      less-unled mid after.session
-      (behind-stays mid after.session placed.handle
-      (behind.Flow (record flow { handle = record { 0 = placed.handle.0 } })) r.sent.left r.frame r.sent.stepped).leads
-      theirs none
-
-  pub attached-keeps : (input : Option InputHandle) (exchange : Option AttachExchange)
-      → AttachedBy input exchange before [] limit link placed after frames → KeepsAsked before after
-  attached-keeps None None (a, aborts) =
+  pub attached-keeps : (input : Option InputHandle) → AttachedBy input before [] limit link placed after frames
+      → KeepsAsked before after
+  attached-keeps None (a, told) =
       step-keeps (Allocates placed.handle.0 (with_number placed.link a.attaching) None) before after a.rest refl
       a.allocates
-  attached-keeps None (Some exchange) a = absurd a
-  attached-keeps (Some input) None a = absurd a
-  attached-keeps (Some input) (Some exchange) a =
+  attached-keeps (Some input) a =
       record {
-        asked = λ theirs link there. (answers theirs link there).1;
-        unled = λ theirs link there none.
-            replies-lead a.reply a.mid _ a.replies theirs
-            (none-stays gives (Allocates placed.handle.0 (with_number placed.link a.becomes) (Some input.0))
-            before.session a.mid theirs a.allocates
+        asked = λ theirs it there. (answers theirs it there).1;
+        unled = λ theirs it there none.
+            ap (λ (r : RouteTable). map.get r theirs)
+            (behind-routes a.frames a.mid after (goes before after limit link placed frames input a))
+            ∙ none-stays gives (Allocates placed.handle.0 (with_number placed.link (a.answers).becomes) (Some input.0))
+            (a.ready).session (a.mid).session theirs (allocates before after limit link placed frames input a)
             (λ (is : Some input.0 ≡ Some theirs).
-            (answers theirs link there).0 (let same : theirs ≡ input.0 = cc in same))
-            none);
+            (answers theirs it there).0 (let same : theirs ≡ input.0 = cc in same))
+            (ap (λ (s : LinksIn). map.get s.routes theirs) (roomed before after limit link placed frames input a)
+            ∙ none);
       }
     where
-      answers : (theirs : ℕ) (link : AskedLink) → map.get after.asked theirs ≡ Some link
-          → (theirs ≢ input.0) × WasAsked before.asked theirs link
-      answers theirs link there =
-          taken-was before.asked input.0 theirs link
-          (sym (ap (λ (x : Linked). map.get x.asked theirs) a.rest) ∙ there)
+      answers : (theirs : ℕ) (it : AskedLink) → map.get after.asked theirs ≡ Some it
+          → (theirs ≢ input.0) × WasAsked before.asked theirs it
+      answers theirs it there =
+          taken-was before.asked input.0 theirs it
+          (sym (ap (λ (t : Asked). map.get t theirs) (asked-is before after limit link placed frames input a)) ∙ there)

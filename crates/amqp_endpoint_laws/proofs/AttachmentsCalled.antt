@@ -25,7 +25,6 @@ use Rattle.amqp_endpoint_attached.specs.Links.{own_attach, receiver_by, sender_b
 use Rattle.amqp_endpoint_conversation.specs.Ending.{EndReply, end_frame}
 use Rattle.amqp_endpoint_conversation.specs.Faults.{fault_error}
 use Rattle.amqp_endpoint_laws.specs.Deeds.{Deed, Does, IsDeed, Takes}
-use Rattle.amqp_endpoint_link_calls.proofs.AttachInside.{attaches-inside}
 use Rattle.amqp_endpoint.specs.Attaching.{LinkAttached}
 use Rattle.amqp_endpoint.specs.Does.{linked}
 use Rattle.amqp_endpoint.specs.declared.linked.LinkedSessions.{LinkedSessions}
@@ -48,6 +47,7 @@ use Rattle.amqp_endpoint_conversation.specs.Inside.{AreOn, IsPlain}
 use Rattle.amqp_endpoint_conversation.proofs.Inside.{at-once-on, both-on, left-on}
 use Rattle.amqp_endpoint_laws.specs.Attachments.{attach_in, attached_in, attaches_in, gone_in, named_by, names_in}
 use Rattle.amqp_endpoint_laws.specs.Queued.{AttachesFirst}
+use Rattle.amqp_endpoint_laws.proofs.AttachedBehind.{attaches-inside}
 use Rattle.amqp_endpoint_laws.proofs.PassedCalled.{IsAttaching, called}
 use Rattle.amqp_endpoint_laws.proofs.PassedHeard.{behind-others, frame-heard}
 use Rattle.amqp_endpoint_laws.proofs.PassedWalk.{Walk}

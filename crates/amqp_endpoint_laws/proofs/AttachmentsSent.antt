@@ -36,11 +36,13 @@ use Rattle.amqp_endpoint_laws.specs.Handed.{pieces_come}
 use Rattle.amqp_endpoint_laws.specs.Taken.{NoneAttaches}
 use Rattle.amqp_endpoint_laws.proofs.Attachments.{NoneTakes, attaches-both, bodies-both, none-both, none-comes}
 use Rattle.amqp_endpoint_laws.proofs.Attachments.{pieces-alike}
-use Rattle.amqp_endpoint_laws.proofs.AttachmentsCalled.{attaches-once, call-none, take-none}
+use Rattle.amqp_endpoint_laws.proofs.AttachmentsCalled.{AttachesOnce, attaches-once, call-none, take-none}
+use Rattle.amqp_endpoint_laws.proofs.GivenUp.{AllAborted}
 use Rattle.amqp_endpoint_laws.proofs.LinksKept.{BackGoesOn, FinishedGoesOn, LeftGoesOn}
 use Rattle.amqp_endpoint_laws.proofs.LinksStay.{entered-before, held-since}
 use Rattle.amqp_endpoint_laws.proofs.PassedSteps.{sent-append, sent-went}
-use Rattle.amqp_endpoint_laws.proofs.QueuedAttached.{HandlesApart, Reached, is-entered, link-entered, nothing-sent}
+use Rattle.amqp_endpoint_laws.proofs.QueuedAttached.{HandlesApart, Reached, aborted-sent, is-entered, link-entered}
+use Rattle.amqp_endpoint_laws.proofs.QueuedSaid.{says-behind}
 use Rattle.amqp_endpoint_laws.proofs.QueuedAttached.{reached-apart, reached-new, reached-on, same-handle, says-all}
 use Rattle.amqp_endpoint_laws.proofs.QueuedOrder.{pieces-both}
 use Rattle.amqp_endpoint_laws.proofs.QueuedSince.{done-of}
@@ -172,21 +174,26 @@ module _ (handles_apart : HandlesApart) (back_on : BackGoesOn) (left_on : LeftGo
         done : AreDone linked sessions before old
         done = done-of number before sessions old first passed
 
+        abbrev once : AttachesOnce (sender_by its) (d.0).placed.handle frames
+        once = attaches-once old new limit number (sender_by its) link events frames d.0
+
+        -- by the call itself deliveries are given up alone
+        given-up : AllAborted (pieces_on handle.0 once.later)
+        given-up =
+            subst (λ (fs : List SessionFrame). AllAborted (pieces_on handle.0 fs)) once.are
+            (aborted-sent handles_apart back_on left_on finished_on sessions old new end settings before since_then
+            number link limit its events frames passings handle fresh done d passes held)
+
         -- it is read as what goes with its handle
         attachment-is : attachment its.name (uses its.name (bodies_of (sent_in first)))
             (bodies_of (sent_in first ++ frames ++ sent_in passings))
-            ≡ pieces_on handle.0 (sent_in passings)
+            ≡ pieces_on handle.0 once.later ++ pieces_on handle.0 (sent_in passings)
         attachment-is =
-            let once = attaches-once old new limit number (sender_by its) link events frames d.0 in
             let own : once.attach.handle.0 ≡ handle.0 =
             once.handled
             ∙ ap (λ (h : OutputHandle). h.0)
             (same-handle handles_apart back_on left_on finished_on sessions old new end settings before since_then
             number link limit its events frames passings handle fresh done d passes held) in
-            let silent : pieces_on handle.0 once.later ≡ [] =
-            ap (λ (fs : List SessionFrame). pieces_on handle.0 fs) (sym once.are)
-            ∙ nothing-sent handles_apart back_on left_on finished_on sessions old new end settings before since_then
-            number link limit its events frames passings handle fresh done d passes held in
             let later : List SessionFrame = once.later ++ sent_in passings in
             let none : NoneTakes handle.0 (attaches_in later) =
             subst (λ (xs : List Attach). NoneTakes handle.0 xs)
@@ -210,7 +217,6 @@ module _ (handles_apart : HandlesApart) (back_on : BackGoesOn) (left_on : LeftGo
             ∙ ap (λ (h : ℕ). pieces_come h (bodies_of later)) own
             ∙ pieces-alike handle.0 later
             ∙ pieces-both handle.0 once.later (sent_in passings)
-            ∙ ap (λ (ps : List Piece). ps ++ pieces_on handle.0 (sent_in passings)) silent
 
         pub attachment-says : SayMessages
             (attachment its.name (uses its.name (bodies_of (sent_in first)))
@@ -218,9 +224,12 @@ module _ (handles_apart : HandlesApart) (back_on : BackGoesOn) (left_on : LeftGo
             ++ pieces_waiting handle.0 session.value.session)
             (messages_by link since_then)
         attachment-says =
-            subst
-            (λ (ps : List Piece).
-            SayMessages (ps ++ pieces_waiting handle.0 session.value.session) (messages_by link since_then))
-            (sym attachment-is)
+            let waiting : List Piece = pieces_waiting handle.0 session.value.session in
+            let passed : List Piece = pieces_on handle.0 (sent_in passings) in
+            subst (λ (ps : List Piece). SayMessages ps (messages_by link since_then))
+            (sym
+            (ap (λ (ps : List Piece). ps ++ waiting) attachment-is
+            ∙ append_assoc (pieces_on handle.0 once.later) passed waiting))
+            (says-behind (pieces_on handle.0 once.later) (passed ++ waiting) (messages_by link since_then) given-up
             (says-all handles_apart back_on left_on finished_on sessions old new end settings before since_then number
-            link limit its events frames passings handle fresh done d passes held session live)
+            link limit its events frames passings handle fresh done d passes held session live))

@@ -6,12 +6,14 @@ use Rattle.amqp_session_types.specs.declared.channels.OutgoingChannel.{OutgoingC
 use Rattle.amqp_session_types.specs.declared.error.Error.{Error}
 use Rattle.amqp_session_types.specs.declared.handles.OutputHandle.{OutputHandle}
 use Rattle.amqp_session_performatives.specs.declared.attach.Attach.{Attach}
+use Rattle.amqp_session_performatives.specs.declared.link_flow.LinkFlow.{LinkFlow}
 use Rattle.amqp_session_performatives.specs.declared.session_frame.SessionFrame.{SessionFrame}
 use Rattle.amqp_session_core.specs.History.{History}
 use Rattle.amqp_session_core.specs.State.{link_at}
 use Rattle.amqp_session_core.specs.Steps.{Act, Changes, Reserves, SendsBehind, SendsTransfers, Step}
 use Rattle.amqp_session_core.specs.declared.batch.BehindFrame.TheVariants as behind
 use Rattle.amqp_link_base.specs.declared.detached.Detached.{Detached}
+use Rattle.amqp_link.specs.Ends.{flowed}
 use Rattle.amqp_link.specs.declared.relay.AttachTold.{AttachTold}
 use Rattle.amqp_link_receiver.specs.declared.answer.Told.{Told}
 use Rattle.amqp_link_sender.specs.Saying.{pieces_of}
@@ -21,7 +23,9 @@ use Rattle.amqp_link_unsettled.specs.declared.exchanging.Abort.{Abort}
 use Rattle.amqp_endpoint_fitting.specs.Handed.{handed, handed_of}
 use Rattle.amqp_endpoint_fitting.proofs.Handing.{step-channel}
 use Rattle.amqp_endpoint_attached.specs.Detaching.{is_there, own_detach}
+use Rattle.amqp_endpoint_attached.specs.Kept.{KeptIn, Replies}
 use Rattle.amqp_endpoint_attached.specs.Linked.{Linked, LinksIn, end_at, end_gives, gives}
+use Rattle.amqp_endpoint_attached.specs.Links.{with_number}
 use Rattle.amqp_endpoint_conversation.specs.Inside.{AcceptsInside, AreOn, SetNoWindow, accepted_in, accepted_of}
 use Rattle.amqp_endpoint_conversation.specs.Inside.{said_in}
 use Rattle.amqp_endpoint_conversation.specs.declared.hearing.Heard.TheVariants as heard
@@ -44,7 +48,7 @@ use Rattle.amqp_endpoint_model.specs.declared.error.EndpointError.{EndpointError
 use Rattle.amqp_endpoint_model.specs.declared.event.Event.{Event}
 use Rattle.amqp_endpoint_laws.proofs.GivenUp.{AllAborted, GiveUp, give-both}
 use Rattle.amqp_endpoint_laws.proofs.HoldingDone.{told-holds}
-use Rattle.amqp_endpoint_laws.proofs.HoldingEnds.{Stays, detach-holds, held_link}
+use Rattle.amqp_endpoint_laws.proofs.HoldingEnds.{Stays, detach-holds, flowed-holds, held_link}
 use Rattle.amqp_endpoint_laws.proofs.HoldingInside.{Rests, all-same, batch-stays, behind-stays, changed-stays}
 use Rattle.amqp_endpoint_laws.proofs.HoldingInside.{reserves-stays, rests-on}
 use Rattle.amqp_endpoint_laws.proofs.Numbers.{KeepNumbers, kept-on, same-kept, step-kept}
@@ -213,22 +217,38 @@ gives-up-behind limit handle aborts stuck frames old new g =
       rest = g.rest;
     }
 
+-- what was kept of a Flow is taken, and replied to
+reply-done : (handle : OutputHandle) (reply : Option LinkFlow) (old new : LinksIn) (frames : List SessionFrame)
+    → Replies gives handle reply old [] new frames → DoneBehind old frames new
+reply-done handle None old new frames r = none-done old new frames r.0 r.1
+reply-done handle (Some flow) old new frames r =
+    one-done (SendsBehind handle (behind.Flow (record flow { handle = record { 0 = handle.0 } })) r.sent.left r.frame)
+    old new frames r.sent.stepped tt r.handed
+
+kept-done : (handle : OutputHandle) (kept : Option LinkFlow) (old new : LinksIn) (frames : List SessionFrame)
+    → KeptIn handle kept old [] new frames → DoneBehind old frames new
+kept-done handle None old new frames t = none-done old new frames t.0 t.1
+kept-done handle (Some flow) old new frames t =
+    let by = t.takes in
+    done-on old t.mid new [] frames frames refl
+    (one-done
+    (Changes handle.0 (with_number by.number by.before) (with_number by.number (flowed by.before flow))) old t.mid []
+    by.changed (refl, inl (flowed-holds by.number by.before flow)) refl)
+    (reply-done handle t.reply t.mid new frames t.replies)
+
 ends-behind : (stuck : Option EndpointError) (session count : ℕ) (handle : OutputHandle) (why : Error)
-    (frames : List SessionFrame) (events : List Event) (old new : Linked)
-    → EndsIf stuck session count handle why frames events old new → Behind frames old new
-ends-behind None session count handle why frames events old new (silent, untold, same) =
-    record {
-      done = none-done old.session new.session frames (ap (λ (x : Linked). x.session) same) silent;
-      rest = same-rest old new same;
-    }
-ends-behind (Some error) session count handle why frames events old new c =
+    (kept : Option LinkFlow) (frames : List SessionFrame) (events : List Event) (old new : Linked)
+    → EndsIf stuck session count handle why kept frames events old new → Behind frames old new
+ends-behind None session count handle why kept frames events old new (t, untold) =
+    record { done = kept-done handle kept old.session new.session frames t.takes; rest = t.rest }
+ends-behind (Some error) session count handle why kept frames events old new c =
     closed-behind session error count handle why frames events old new c
 
 -- a link that took the Attach
-attached-behind : (limit session count : ℕ) (handle : OutputHandle) (why : Error) (aborts : List Abort)
-    (frames : List SessionFrame) (events : List Event) (old new : Linked)
-    → AttachedAt limit session count handle why aborts frames events old new → Behind frames old new
-attached-behind limit session count handle why aborts frames events old new a =
+pub attached-behind : (limit session count : ℕ) (handle : OutputHandle) (why : Error) (aborts : List Abort)
+    (kept : Option LinkFlow) (frames : List SessionFrame) (events : List Event) (old new : Linked)
+    → AttachedAt limit session count handle why aborts kept frames events old new → Behind frames old new
+attached-behind limit session count handle why aborts kept frames events old new a =
     behind-on old a.told new [] frames frames refl
     (record {
       done = tells-done count handle (link_at old.session handle.0) old.session a.told.session a.tells.tells;
@@ -236,7 +256,7 @@ attached-behind limit session count handle why aborts frames events old new a =
     })
     (behind-on a.told a.given new a.up a.down frames a.frames_are
     (gives-up-behind limit handle aborts a.stuck a.up a.told a.given a.gives_up)
-    (ends-behind a.stuck session count handle why a.down a.failed a.given new a.ends))
+    (ends-behind a.stuck session count handle why kept a.down a.failed a.given new a.ends))
 
 -- room is made
 pub room-behind : (old new : Linked) → MadeRoom old new → Behind [] old new
@@ -266,7 +286,8 @@ pub takes-behind : (outcome : Result Attaching LinkError) (limit session count :
     → GoesOn (Behind frames) old session new
 takes-behind (Ok made) limit session count handle link old frames events new t =
     goes-so _ (Behind frames)
-    (λ a b d. attached-behind limit session count handle _ made.aborts frames t.behind a b d) old session new t.goes
+    (λ a b d. attached-behind limit session count handle _ made.aborts None frames t.behind a b d) old session new
+    t.goes
 takes-behind (Err error) limit session count handle link old frames events new t =
     goes-so _ (Behind frames) (λ a b c. closed-behind session _ count handle _ frames events a b c) old session new t
 

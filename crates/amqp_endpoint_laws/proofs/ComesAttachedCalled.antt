@@ -7,26 +7,24 @@ use Rattle.std.specs.FinMap as map
 use Rattle.amqp_session_types.specs.declared.handles.InputHandle.{InputHandle}
 use Rattle.amqp_session_types.specs.declared.handles.OutputHandle.{OutputHandle}
 use Rattle.amqp_session_types.specs.declared.modes.Role.TheVariants as role
-use Rattle.amqp_session_performatives.specs.declared.link_flow.LinkFlow.{LinkFlow}
 use Rattle.amqp_session_performatives.specs.declared.session_frame.SessionFrame.{SessionFrame}
-use Rattle.amqp_session_core.specs.State.{link_at, reached as link_reached}
-use Rattle.amqp_link_base.specs.declared.exchange.AttachExchange.{AttachExchange}
+use Rattle.amqp_session_core.specs.State.{link_at}
+use Rattle.amqp_session_core.specs.Tables.{RouteTable}
 use Rattle.amqp_link.specs.Ends.{state_of, with_handle}
 use Rattle.amqp_link.specs.declared.end.End.{End}
 use Rattle.amqp_link_receiver.specs.Deliveries.{Delivery}
 use Rattle.amqp_session_types.proofs.Tables.{get-put}
 use Rattle.amqp_endpoint_links.specs.Asked.{Asked as AskedLinks}
 use Rattle.amqp_endpoint_links.specs.declared.links.AskedLink.{AskedLink}
-use Rattle.amqp_endpoint_attached.specs.Answering.{Replies}
-use Rattle.amqp_endpoint_attached.specs.Linked.{LinksIn, gives}
-use Rattle.amqp_endpoint_attached.specs.Links.{attach_frame, attach_sent, receiver_by, sender_by, with_number}
+use Rattle.amqp_endpoint_attached.specs.Linked.{LinksIn}
+use Rattle.amqp_endpoint_attached.specs.Links.{attach_sent, receiver_by, sender_by, with_number}
 use Rattle.amqp_endpoint_laws.specs.Deeds.{Deed, Does, IsDeed, Takes}
 use Rattle.amqp_endpoint_link_calls.specs.Attaching.{AttachedBy}
 use Rattle.amqp_endpoint_link_calls.specs.Naming.{Meets}
 use Rattle.amqp_endpoint.specs.Attaching.{LinkAttached}
 use Rattle.amqp_endpoint.specs.Does.{linked}
 use Rattle.amqp_endpoint.specs.declared.linked.LinkedSessions.{LinkedSessions}
-use Rattle.amqp_endpoint_linking.specs.Linking.{Session, Stood}
+use Rattle.amqp_endpoint_linking.specs.Linking.{Link, Session, Stood}
 use Rattle.amqp_endpoint_model.specs.Said.{Said, attaching}
 use Rattle.amqp_endpoint_model.specs.declared.call.Call.{Call}
 use Rattle.amqp_endpoint_model.specs.declared.call.Call.TheVariants as call
@@ -41,11 +39,14 @@ use Rattle.amqp_endpoint_laws.specs.Handed.{IsReceiving, leads_there}
 use Rattle.amqp_endpoint_laws.specs.Held.{number_at}
 use Rattle.amqp_endpoint_laws.specs.Passed.{is_it}
 use Rattle.amqp_endpoint_laws.specs.Taken.{asked_in}
+use Rattle.amqp_endpoint_laws.proofs.AttachedBehind.{allocates, goes}
+use Rattle.amqp_endpoint_laws.proofs.BehindAttach.{behind-routes}
 use Rattle.amqp_endpoint_laws.proofs.ComesAttachedHeard.{reaches-link}
 use Rattle.amqp_endpoint_laws.proofs.ComesAttachedHeld.{end-held, received-before, receiving-holds}
 use Rattle.amqp_endpoint_laws.proofs.HeldKept.{agree-kept}
 use Rattle.amqp_endpoint_laws.proofs.HoldingDeeds.{attached-enters, deed-rests}
-use Rattle.amqp_endpoint_laws.proofs.HoldingEnds.{Stays, attached-so, held_end, held_link, stands_so, stays-still}
+use Rattle.amqp_endpoint_laws.proofs.HoldingEnds.{Part, Stays, attached-so, held_end, held_link, stands_so}
+use Rattle.amqp_endpoint_laws.proofs.HoldingEnds.{stays-still}
 use Rattle.amqp_endpoint_laws.proofs.HoldingTalk.{EntersAt, changed-live, each-same, held_in}
 use Rattle.amqp_endpoint_laws.proofs.HoldingWaits.{IsUnattached}
 use Rattle.amqp_endpoint_laws.proofs.LifePlace.{CameBy, IsUnentered, came-so, unentered-none}
@@ -121,12 +122,10 @@ waiting-apart number e link held waits is =
     (sym (attached-so it.receiver.base.local_state it.attached) ∙ ap (λ (x : End). stands_so (state_of x)) (sym it.is)
     ∙ waits))
 
--- a Flow with which a link replies leaves what the peer's handles reach
-replies-reach : (handle : OutputHandle) (reply : Option LinkFlow) (old new : LinksIn) (out frames : List SessionFrame)
-    (input : ℕ) → Replies gives handle reply old out new frames → link_reached new input ≡ link_reached old input
-replies-reach handle None old new out frames input r = ap (λ (s : LinksIn). link_reached s input) r.0
-replies-reach handle (Some flow) old new out frames input r =
-    ap (λ (s : LinksIn). link_reached s input) r.sent.stepped.2
+-- a link that is held is there
+held-there : (o : Option Link) (x : ℕ × Part) → held_link o ≡ Some x → (link : Link) × (o ≡ Some link)
+held-there None x is = absurd (none-some x is)
+held-there (Some link) x is = (link, refl)
 
 -- the links that are asked for in a session that goes on
 asked-live : (o : Option Stood) (session : Session) → live_of o ≡ Some session → asked_in o ≡ session.value.asked
@@ -203,11 +202,10 @@ module _ (old new : LinkedSessions) (limit number : ℕ) (its : LinkSettings) (l
       sym (ap (λ (o : Option Session). held_in o a.placed.handle.0) stands)
       ∙ ap (λ (h : ℕ). held_in (live_at new.talk.sessions number) h) (sym its-handle) ∙ is-held
 
-  by-input : (input : Option InputHandle) (exchange : Option AttachExchange)
-      → Meets before.value.asked (receiver_by its) input
-      → AttachedBy input exchange before.value [] limit (receiver_by its) a.placed after.value a.attaches.frames
+  by-input : (input : Option InputHandle) → Meets before.value.asked (receiver_by its) input
+      → AttachedBy input before.value [] limit (receiver_by its) a.placed after.value a.attaches.frames
       → AnswersAsked old new number its own held
-  by-input None None m (s, aborts) =
+  by-input None m (s, told) =
       absurd
       (waiting-apart a.placed.link s.attaching link held
       (sent-waits its a.placed.handle s.attach.incomplete_unsettled s.attaching s.sends.sent)
@@ -219,9 +217,12 @@ module _ (old new : LinkedSessions) (limit number : ℕ) (its : LinkSettings) (l
       else link_at before.value.session a.placed.handle.0)
       (eq-same a.placed.handle.0)))
       ∙ its-held))
-  by-input None (Some exchange) m s = absurd s
-  by-input (Some input) None m s = absurd s
-  by-input (Some input) (Some exchange) m s =
+  by-input (Some input) m s =
+      let it = receiver_by its in
+      let got = allocates before.value after.value limit it a.placed a.attaches.frames input s in
+      let behind = goes before.value after.value limit it a.placed a.attaches.frames input s in
+      let (it_stands, is_there) =
+      held-there (link_at after.value.session a.placed.handle.0) (link, (true, held)) its-held in
       record {
         theirs = input.0;
         asked = m.link;
@@ -234,27 +235,21 @@ module _ (old new : LinkedSessions) (limit number : ℕ) (its : LinkSettings) (l
         leads =
             ap (λ (o : Option Session). leads_there o input.0 own) stands
             ∙ ap (λ (o : Option ℕ). is_it o own.0)
-            (replies-reach a.placed.handle s.reply s.mid after.value.session
-            (attach_frame before.value.session s.attach ∷ []) a.attaches.frames input.0 s.replies
-            ∙ reaches-link s.mid input.0 a.placed.handle.0 (with_number a.placed.link s.becomes)
-            (ap (λ (x : LinksIn). map.get x.routes input.0) s.allocates.5
-            ∙ get-put before.value.session.routes input.0 input.0 a.placed.handle.0
+            (reaches-link after.value.session input.0 a.placed.handle.0 it_stands
+            (ap (λ (r : RouteTable). map.get r input.0) (behind-routes s.frames s.mid after.value behind)
+            ∙ ap (λ (x : LinksIn). map.get x.routes input.0) got.5
+            ∙ get-put (s.ready).session.routes input.0 input.0 a.placed.handle.0
             ∙ ap
-            (λ (b : Bool). cond b (Some a.placed.handle.0) (map.get before.value.session.routes input.0))
+            (λ (b : Bool). cond b (Some a.placed.handle.0) (map.get (s.ready).session.routes input.0))
             (eq-same input.0))
-            (s.allocates.4 a.placed.handle.0
-            ∙ ap
-            (λ (b : Bool).
-            if b then Some (with_number a.placed.link s.becomes)
-            else link_at before.value.session a.placed.handle.0)
-            (eq-same a.placed.handle.0)))
+            is_there)
             ∙ ap (λ (h : ℕ). h == a.placed.handle.0) its-handle ∙ eq-same a.placed.handle.0;
         empty = holds-none;
       }
 
   answers-asked : AnswersAsked old new number its own held
   answers-asked =
-      let one = a.attaches.attaches.attached in by-input one.input a.placed.exchange one.meets one.attached
+      let one = a.attaches.attaches.attached in by-input one.input one.meets one.attached
 
 -- behind the call by which a receiving link attaches it is attached only where it answers an asked one
 pub call-attaches : (limit number : ℕ) (its : LinkSettings) (link : ℕ) (events : List Event)

@@ -1,13 +1,14 @@
 -- An endpoint counts the messages that it accepts to be sent and those that it hands out.
-use Rattle.std.proofs.Common.{◌≡◌, ◌<◌, inl, inr, ℕ, Bool, true, false, List, [], ◌∷◌, ◌++◌, Option, Some, None, map, arith}
+use Rattle.std.proofs.Common.{◌≡◌, ◌<◌, inl, inr, ℕ, Bool, true, false, List, [], ◌∷◌, ◌++◌, Option, Some, None, map}
+use Rattle.std.proofs.Common.{arith}
 use Rattle.std.proofs.Common.{refl, sym, ap, subst, ◌∙◌}
 use Rattle.std.specs.Prelude.{◌^◌, option_map, slice_get}
 use Rattle.std.proofs.lemmas.Option.{none-some, same_Some, slice_get-map}
 use Rattle.std.proofs.lemmas.List.{append-nil, map-append}
+use Rattle.amqp_session_types.specs.declared.handles.InputHandle.{InputHandle}
 use Rattle.amqp_session_types.specs.declared.handles.OutputHandle.{OutputHandle}
 use Rattle.amqp_session_performatives.specs.declared.session_frame.SessionFrame.{SessionFrame}
 use Rattle.amqp_session_core.specs.State.{link_at}
-use Rattle.amqp_link_base.specs.declared.exchange.AttachExchange.{AttachExchange}
 use Rattle.amqp_endpoint_tables.specs.declared.link_place.LinkPlace.TheVariants.{AtRest, Held}
 use Rattle.amqp_endpoint_tables.specs.LinkState.{place_at}
 use Rattle.amqp_endpoint_model.specs.declared.call.Call.{Call}
@@ -18,13 +19,19 @@ use Rattle.amqp_endpoint_model.specs.History.{Run}
 use Rattle.amqp_endpoint_model.specs.Relay.{IsNew}
 use Rattle.amqp_endpoint_model.specs.Said.{Said, Told, attaching, count, credit_is, done, link_closed, session_begun}
 use Rattle.amqp_endpoint_model.specs.Said.{message_sent, tried_end, truth, waiting}
-use Rattle.amqp_endpoint_model.specs.State.{State, fresh}
-use Rattle.amqp_endpoint_attached.specs.Linked.{end_at}
+use Rattle.amqp_endpoint_model.specs.State.{State, error_of, fresh}
+use Rattle.amqp_endpoint_model.specs.Step.{not_allowed}
+use Rattle.amqp_link.specs.declared.end.End.{End}
+use Rattle.amqp_endpoint_attached.specs.Linked.{Linked, end_at}
+use Rattle.amqp_endpoint_attached.specs.Links.{receiver_by, sender_by}
 use Rattle.amqp_endpoint_linking.specs.Linking.{Links, Talk}
+use Rattle.amqp_endpoint_link_calls.specs.Attaching.{AttachedBy}
+use Rattle.amqp_endpoint_link_calls.specs.declared.placed.Placed.{Placed}
 use Rattle.amqp_endpoint_link_calls.specs.Closing.{ClosedAt, ClosedHeld, closed_end, parted_at}
 use Rattle.amqp_endpoint_link_calls.specs.Places.{Where}
 use Rattle.amqp_endpoint_messages.specs.All.{open_count}
-use Rattle.amqp_endpoint.specs.Attaching.{exchange_told}
+use Rattle.amqp_endpoint_messages.specs.GivingUp.{attached_told}
+use Rattle.amqp_endpoint.specs.Attaching.{LinkAttached}
 use Rattle.amqp_endpoint.specs.Calling.{Calls}
 use Rattle.amqp_endpoint.specs.Counting.{Counted, CountsStay}
 use Rattle.amqp_endpoint.specs.Does.{linked}
@@ -34,9 +41,9 @@ use Rattle.amqp_endpoint_laws.specs.CallsDone.{events_of, events_told}
 use Rattle.amqp_endpoint_laws.specs.Telling.{numbers_told, numbers_under, tag_given, tags_given}
 use Rattle.amqp_endpoint_laws.proofs.Keeping.{IsOfConnection, Keeps}
 use Rattle.amqp_endpoint_laws.proofs.Kept.{run-keeps}
-use Rattle.amqp_endpoint_laws.proofs.Numbered.{GivesNext, gives-next}
+use Rattle.amqp_endpoint_laws.proofs.Numbered.{GivesNext, attached-unnumbered, gives-next}
 use Rattle.amqp_endpoint_laws.proofs.Serials.{at-under, below-count, numbers-append, same-tags}
-use Rattle.amqp_endpoint_laws.proofs.Unnumbered.{Unnumbered, by-unnumbered, first-unnumbered}
+use Rattle.amqp_endpoint_laws.proofs.Unnumbered.{Unnumbered, both-unnumbered, by-unnumbered, first-unnumbered}
 use Rattle.amqp_endpoint_model.specs.declared.event.Event.TheVariants.{Opened, Closed}
 
 -- the tags are those of the numbers under the one count, each of which eight bytes hold, and the messages have the
@@ -89,9 +96,26 @@ called-plain seen events tags old new none same c =
     subst (λ (ts : List (List ℕ)). Counts (seen ++ events) ts new) (sym (append-nil tags))
     (told-more seen events tags new none (stay seen tags old new same c))
 
-exchange-unnumbered : (link : ℕ) (exchange : Option AttachExchange) → Unnumbered (exchange_told link exchange)
-exchange-unnumbered link None = refl
-exchange-unnumbered link (Some exchange) = refl
+-- nor does what comes of a link that attaches
+placed-unnumbered : (input : Option InputHandle) (before after : Linked) (limit : ℕ) (link : End) (placed : Placed)
+    (frames : List SessionFrame) → AttachedBy input before [] limit link placed after frames
+    → Unnumbered placed.events.items
+placed-unnumbered None before after limit link placed frames (a, told) =
+    ap (λ (es : List Event). numbers_told es) told
+placed-unnumbered (Some input) before after limit link placed frames a =
+    ap (λ (es : List Event). numbers_told es) a.told
+    ∙ both-unnumbered (attached_told placed.link (a.answered).exchange) a.behind refl
+    (attached-unnumbered limit placed.session (open_count (Some link)) placed.handle (error_of not_allowed)
+    (a.answered).aborts (a.answered).kept a.frames a.behind a.mid after a.goes)
+
+link-unnumbered : (old new : Talk) (links links_new : Links) (limit session : ℕ) (link : End) (number : ℕ)
+    (events : List Event) (frames : List SessionFrame)
+    → LinkAttached old links limit session link number events frames new links_new → Unnumbered events
+link-unnumbered old new links links_new limit session link number events frames a =
+    let i = (a.attaches).attaches in
+    ap (λ (es : List Event). numbers_told es) a.told
+    ∙ placed-unnumbered (i.attached).input (i.before).value (i.after).value limit link a.placed (a.attaches).frames
+    (i.attached).attached
 
 held-unnumbered : (parted : Bool) (session : ℕ) (handle : OutputHandle) (number : ℕ) (events : List Event)
     (old new : Talk) (links links_new : Links) (frames : List SessionFrame)
@@ -118,9 +142,9 @@ closed-unnumbered (Some (Held session handle)) number events old new links links
 pub answer-unnumbered : (by_call : Call) (answer : Said) (old new : LinkedSessions) (limit : ℕ)
     (frames : List SessionFrame) → Calls old limit by_call answer frames new → Unnumbered (events_of answer)
 answer-unnumbered (call.AttachSender n settings) (attaching link events) old new limit frames c =
-    ap (λ (es : List Event). numbers_told es) c.told ∙ exchange-unnumbered c.placed.link c.placed.exchange
+    link-unnumbered old.talk new.talk old.links new.links limit n (sender_by settings) link events frames c
 answer-unnumbered (call.AttachReceiver n settings) (attaching link events) old new limit frames c =
-    ap (λ (es : List Event). numbers_told es) c.told ∙ exchange-unnumbered c.placed.link c.placed.exchange
+    link-unnumbered old.talk new.talk old.links new.links limit n (receiver_by settings) link events frames c
 answer-unnumbered (call.CloseLink link) (link_closed events) old new limit frames c =
     closed-unnumbered (place_at old.links link) link events old.talk new.talk old.links new.links frames c
 answer-unnumbered call.Begin (session_begun n) old new limit frames c = refl

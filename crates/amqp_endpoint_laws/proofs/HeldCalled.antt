@@ -132,7 +132,7 @@ attached old new links links_new limit session link number events frames l a =
     let i = t.attaches in
     let one = i.attached in
     let p =
-    attached-placed (i.before).value (i.after).value limit link it t.frames one.input it.exchange one.attached in
+    attached-placed (i.before).value (i.after).value limit link it t.frames one.input one.attached in
     let e = entered it.link (name_of link) session it.handle (with_room links) links_new t.entered in
     inside session ((i.before).value).session ((i.after).value).session old.sessions new.sessions
     (live-changed session i.before i.after old.sessions new.sessions i.stepped) links links_new

@@ -77,7 +77,8 @@ use Rattle.amqp_endpoint_link_hearing.proofs.Barrings.{refuses-by}
 use Rattle.amqp_endpoint_laws.specs.Held.{number_of}
 use Rattle.amqp_endpoint_laws.proofs.BehindAttach.{Follows, becomes-behind, behind-rests, number_of as session_heard}
 use Rattle.amqp_endpoint_laws.proofs.HeldCalled.{accepted-none, begun-none}
-use Rattle.amqp_endpoint_laws.proofs.HoldingDone.{StaysBy, attached-comes, attached-first, closes-stays, closing-stays}
+use Rattle.amqp_endpoint_laws.proofs.HoldingAttached.{attached-comes, attached-first}
+use Rattle.amqp_endpoint_laws.proofs.HoldingDone.{StaysBy, closes-stays, closing-stays}
 use Rattle.amqp_endpoint_laws.proofs.HoldingDone.{detaches-stay, disposes-all, disposes-one, drains-stays, echoes-stay}
 use Rattle.amqp_endpoint_laws.proofs.HoldingDone.{failing-stays, gives-stays, leave-stay, parts-stay, sends-stays}
 use Rattle.amqp_endpoint_laws.proofs.HoldingDone.{tells-stays}
@@ -315,8 +316,7 @@ attached old new links links_new limit session link number events frames empty a
     let one = i.attached in
     live-changes (EachAt (Comes a.placed.link)) (each-same (Comes a.placed.link) (λ x. inr (goes-still x))) session
     i.before i.after old.sessions new.sessions i.stepped
-    (attached-comes i.before.value i.after.value limit link a.placed l.frames empty one.input a.placed.exchange
-    one.attached)
+    (attached-comes i.before.value i.after.value limit link a.placed l.frames empty one.input one.attached)
 
 pub attached-enters : (old new : Talk) (links links_new : LinksBy) (limit session : ℕ) (link : End) (number : ℕ)
     (events : List Event) (frames : List SessionFrame) → IsUnattached link
@@ -329,8 +329,7 @@ attached-enters old new links links_new limit session link number events frames 
     live-changes (EntersAt a.placed.handle.0) (λ o p same. inl (rests-same o p same)) session i.before i.after
     old.sessions new.sessions i.stepped
     (first-at a.placed.handle.0 i.before i.after
-    (attached-first i.before.value i.after.value limit link a.placed l.frames fresh one.input a.placed.exchange
-    one.attached))
+    (attached-first i.before.value i.after.value limit link a.placed l.frames fresh one.input one.attached))
 
 -- a session begins, and ends
 unheld : (o : Option Link) → number_of o ≡ None → held_link o ≡ None

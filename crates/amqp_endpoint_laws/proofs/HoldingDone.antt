@@ -3,11 +3,9 @@ use Rattle.std.proofs.Common.{◌≡◌, inl, inr, ℕ, Bool, true, false, List,
 use Rattle.std.proofs.Common.{Ok, refl, subst, sym, ap, ◌∙◌}
 use Rattle.std.specs.Prelude.{length, replicate}
 use Rattle.amqp_session_types.specs.declared.error.Error.{Error}
-use Rattle.amqp_session_types.specs.declared.handles.InputHandle.{InputHandle}
 use Rattle.amqp_session_types.specs.declared.handles.OutputHandle.{OutputHandle}
 use Rattle.amqp_session_states.specs.declared.delivery_state.DeliveryState.{DeliveryState}
 use Rattle.amqp_session_performatives.specs.declared.disposition.Disposition.{Disposition}
-use Rattle.amqp_session_performatives.specs.declared.link_flow.LinkFlow.{LinkFlow}
 use Rattle.amqp_session_performatives.specs.declared.session_frame.SessionFrame.{SessionFrame}
 use Rattle.amqp_session_performatives.specs.declared.session_frame.SessionFrameBody.{SessionFrameBody}
 use Rattle.amqp_session_performatives.specs.declared.session_frame.SessionFrameBody.TheVariants as said
@@ -15,8 +13,6 @@ use Rattle.amqp_session_core.specs.State.{link_at}
 use Rattle.amqp_session_core.specs.declared.batch.BehindFrame.{BehindFrame}
 use Rattle.amqp_session_core.specs.declared.batch.BehindFrame.TheVariants as behind
 use Rattle.amqp_session_core.specs.declared.dispositions.Touched.{Touched}
-use Rattle.amqp_link_base.specs.declared.exchange.AttachExchange.{AttachExchange}
-use Rattle.amqp_link.specs.Ends.{with_handle}
 use Rattle.amqp_link.specs.declared.end.End.{End}
 use Rattle.amqp_link.specs.declared.end.End.TheVariants.{Receiver, Sender}
 use Rattle.amqp_link_receiver.specs.Disposing.{disposed_of}
@@ -24,7 +20,6 @@ use Rattle.amqp_link_receiver.specs.DisposingAll.{Named, each_disposed, one_disp
 use Rattle.amqp_link_receiver.specs.Flowing.{credited}
 use Rattle.amqp_link_receiver.specs.State.{ReceiverState}
 use Rattle.amqp_link_sender.specs.Sends.{entry_unless, sent, with_room}
-use Rattle.amqp_endpoint_attached.specs.Answering.{Replies}
 use Rattle.amqp_endpoint_attached.specs.Detaching.{DetachGiven, is_there, own_detach}
 use Rattle.amqp_endpoint_attached.specs.Linked.{Linked, LinksIn, end_at, gives}
 use Rattle.amqp_endpoint_attached.specs.Links.{with_number}
@@ -34,8 +29,6 @@ use Rattle.amqp_endpoint_attached.specs.TakenOut.{TakenOut}
 use Rattle.amqp_endpoint_attached.proofs.There.{replaced}
 use Rattle.amqp_endpoint_messages.specs.Disposing.{settles}
 use Rattle.amqp_endpoint_messages.specs.Dispositions.{SendsEach}
-use Rattle.amqp_endpoint_link_calls.specs.Attaching.{AttachedBy}
-use Rattle.amqp_endpoint_link_calls.specs.declared.placed.Placed.{Placed}
 use Rattle.amqp_endpoint_link_calls.specs.Calling.{Does, detaches, gives_credit, wants_drain}
 use Rattle.amqp_endpoint_link_calls.specs.Closing.{closed_end, closes, fails}
 use Rattle.amqp_endpoint_link_hearing.specs.Detaching.{TellsAndParts}
@@ -54,13 +47,10 @@ use Rattle.amqp_endpoint_messages.specs.Echoing.{echoes_of}
 use Rattle.amqp_endpoint_messages.specs.Reached.{behind_one, behind_reached, end_behind, link_behind}
 use Rattle.amqp_endpoint_messages.specs.Sending.{sending}
 use Rattle.amqp_endpoint_laws.proofs.HoldingEnds.{Comes, IsEmpty, Stays, detach-holds}
-use Rattle.amqp_endpoint_laws.proofs.HoldingEnds.{empty-flowed, empty-fresh}
 use Rattle.amqp_endpoint_laws.proofs.HoldingEnds.{empty-handle, empty-sent, empty-takes, held_end, held_link}
 use Rattle.amqp_endpoint_laws.proofs.HoldingInside.{Each, LeadsFirst, Rests, all-same, allocated-comes, allocated-leads}
 use Rattle.amqp_endpoint_laws.proofs.HoldingInside.{batch-stays, behind-stays, first-rests}
 use Rattle.amqp_endpoint_laws.proofs.HoldingInside.{changed-stays, each-comes, freed-stays, rests-on, sent-stays}
-use Rattle.amqp_endpoint_laws.proofs.HoldingWaits.{IsUnattached, answer-waits}
-use Rattle.amqp_endpoint_laws.proofs.LeadingStill.{own-waits}
 
 -- a session that stays
 same-stays : (old new : Linked) → new ≡ old → Rests old.session new.session
@@ -306,62 +296,3 @@ disposes-one limit message disposal handle before after frames d =
     (disposed_of l.receiver d.tag (settles l.receiver l.delivery disposal.settled) disposal.state)) l.changed
     (inl refl))
     (each-sent it.mid it.told after.session it.sends)
-
--- a link attaches
-module _ (before after : Linked) (limit : ℕ) (link : End) (placed : Placed) (frames : List SessionFrame) where
-  replies-stay : (reply : Option LinkFlow) (mid : LinksIn) (out : List SessionFrame)
-      → Replies gives placed.handle reply mid out after.session frames → Rests mid after.session
-  replies-stay None mid out r = all-same mid after.session r.0
-  replies-stay (Some flow) mid out r =
-      behind-stays mid after.session placed.handle
-      (behind.Flow (record flow { handle = record { 0 = placed.handle.0 } })) r.sent.left r.frame r.sent.stepped
-
-  pub attached-comes : IsEmpty link → (input : Option InputHandle) (exchange : Option AttachExchange)
-      → AttachedBy input exchange before [] limit link placed after frames
-      → Each (Comes placed.link) before.session after.session
-  attached-comes empty None None (a, aborts) =
-      allocated-comes placed.link before.session after.session placed.handle.0 (with_number placed.link a.attaching)
-      None
-      (empty-fresh placed.link a.attaching
-      (empty-sent (with_handle link placed.handle) a.attach.incomplete_unsettled a.attaching
-      (empty-handle link placed.handle empty) a.sends.sent))
-      a.allocates
-  attached-comes empty None (Some exchange) a = absurd a
-  attached-comes empty (Some input) None a = absurd a
-  attached-comes empty (Some input) (Some exchange) a =
-      let e = a.exchanges in
-      let taken : IsEmpty e.taken = empty-takes link a.asked.attach (Ok e.takes.told) e.taken empty e.takes.takes in
-      let sent : IsEmpty e.attached =
-      empty-sent (with_handle e.taken placed.handle) a.attach.incomplete_unsettled e.attached
-      (empty-handle e.taken placed.handle taken) e.sent in
-      each-comes placed.link before.session a.mid after.session
-      (allocated-comes placed.link before.session a.mid placed.handle.0 (with_number placed.link a.becomes)
-      (Some input.0)
-      (empty-fresh placed.link a.becomes
-      (subst IsEmpty (sym e.flows) (empty-flowed e.attached a.asked.flow sent))) a.allocates)
-      (replies-stay a.reply a.mid _ a.replies)
-
-  -- the peer's handles lead to it so
-  pub attached-first : IsUnattached link → (input : Option InputHandle) (exchange : Option AttachExchange)
-      → AttachedBy input exchange before [] limit link placed after frames
-      → LeadsFirst placed.handle.0 before.session after.session
-  attached-first fresh None None (a, aborts) =
-      allocated-leads before.session after.session placed.handle.0 (with_number placed.link a.attaching) None
-      a.allocates (λ k held is. refl)
-      (λ k held is.
-      absurd
-      (own-waits placed.link link placed.handle a.attach.incomplete_unsettled a.attaching fresh a.sends.sent k held
-      is))
-  attached-first fresh None (Some exchange) a = absurd a
-  attached-first fresh (Some input) None a = absurd a
-  attached-first fresh (Some input) (Some exchange) a =
-      let e = a.exchanges in
-      first-rests placed.handle.0 before.session a.mid after.session
-      (allocated-leads before.session a.mid placed.handle.0 (with_number placed.link a.becomes) (Some input.0)
-      a.allocates
-      (λ k held is.
-      absurd
-      (answer-waits placed.link link a.asked.attach e.takes.told e.taken e.attached a.becomes placed.handle
-      a.attach.incomplete_unsettled a.asked.flow fresh e.takes.takes e.sent e.flows k held is))
-      (λ k held is. refl))
-      (replies-stay a.reply a.mid _ a.replies)

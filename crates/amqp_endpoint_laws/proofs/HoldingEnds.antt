@@ -44,7 +44,6 @@ use Rattle.amqp_link_receiver.specs.Deliveries.{Delivery}
 use Rattle.amqp_link_sender.specs.Attaching as sending
 use Rattle.amqp_link_sender.specs.Ending as sender
 use Rattle.amqp_link_sender.specs.Sending.{Sending}
-use Rattle.amqp_endpoint_attached.specs.Answering.{flowed_by}
 use Rattle.amqp_endpoint_attached.specs.Detaching.{detach_sent}
 use Rattle.amqp_endpoint_attached.specs.Links.{attach_sent}
 use Rattle.amqp_endpoint_linking.specs.Linking.{Link}
@@ -219,7 +218,7 @@ module _ (k : ℕ) where
   flow-holds true r flow = refl
   flow-holds false r flow = refl
 
-  flowed-holds : (old : End) (flow : LinkFlow) → held_end k (flowed old flow) ≡ held_end k old
+  pub flowed-holds : (old : End) (flow : LinkFlow) → held_end k (flowed old flow) ≡ held_end k old
   flowed-holds (Sender s) flow = refl
   flowed-holds (Receiver r) flow = flow-holds (is_attached r.base.local_state) r (receiver_flowed r.end.flow flow)
 
@@ -372,15 +371,3 @@ empty-takes (Receiver r) attach (Ok (told.Receiver answer)) (Receiver after) emp
 empty-takes (Receiver r) attach (Err Memory) (Receiver after) empty a =
     taken-held (took_attach r.base attach) (attach_error r attach) r attach (Err alloc_error) after a ∙ empty
 empty-takes e attach told new empty a = absurd a
-
--- and what was kept of a Flow
-flow-empty : (attached : Bool) (r : ReceiverState) (flow : LinkFlowStateInner) → r.end.held ≡ None
-    → IsEmpty (Receiver (if attached then with_flow r flow else r))
-flow-empty true r flow empty = empty
-flow-empty false r flow empty = empty
-
-pub empty-flowed : (e : End) (flow : Option LinkFlow) → IsEmpty e → IsEmpty (flowed_by e flow)
-empty-flowed e None empty = empty
-empty-flowed (Sender s) (Some flow) empty = tt
-empty-flowed (Receiver r) (Some flow) empty =
-    flow-empty (is_attached r.base.local_state) r (receiver_flowed r.end.flow flow) empty

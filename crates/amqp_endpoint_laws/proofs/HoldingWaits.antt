@@ -5,9 +5,8 @@ use Rattle.std.proofs.lemmas.Option.{none-some, same_Some}
 use Rattle.std.specs.Prelude.{option_map}
 use Rattle.amqp_session_types.specs.declared.handles.OutputHandle.{OutputHandle}
 use Rattle.amqp_session_performatives.specs.declared.attach.Attach.{Attach}
-use Rattle.amqp_session_performatives.specs.declared.link_flow.LinkFlow.{LinkFlow}
 use Rattle.amqp_link_types.specs.declared.attaching.ReceiverAttachError.{ReceiverAttachError}
-use Rattle.amqp_link_base.specs.Flows.{attached as flow_attached, receiver_flowed, sender_flowed}
+use Rattle.amqp_link_base.specs.Flows.{attached as flow_attached}
 use Rattle.amqp_link_base.specs.declared.inner.LinkFlowStateInner.{LinkFlowStateInner}
 use Rattle.amqp_link_base.specs.State.{after_incoming_attach, after_send_attach}
 use Rattle.amqp_link_base.specs.State.{is_attached}
@@ -22,13 +21,11 @@ use Rattle.amqp_link.specs.declared.end.End.TheVariants.{Receiver, Sender}
 use Rattle.amqp_link.specs.declared.relay.AttachTold.{AttachTold}
 use Rattle.amqp_link.specs.declared.relay.AttachTold.TheVariants as told
 use Rattle.amqp_link_receiver.specs.Attaching.{TakesAttach, attach_error}
-use Rattle.amqp_link_receiver.specs.Flowing.{with_flow}
 use Rattle.amqp_link_receiver.specs.State.{ReceiverState}
 use Rattle.amqp_link_receiver.specs.declared.attaching.Attached.{Attached as AttachedTold}
 use Rattle.amqp_link_receiver.specs.Deliveries.{Delivery}
 use Rattle.amqp_link_sender.specs.Attaching as sending
 use Rattle.amqp_link_sender.specs.Sending.{Sending}
-use Rattle.amqp_endpoint_attached.specs.Answering.{flowed_by}
 use Rattle.amqp_endpoint_attached.specs.Links.{attach_sent}
 use Rattle.amqp_endpoint_laws.proofs.HoldingEnds.{Moves, Part, attach-moves, held_end, held_if, stands_so}
 
@@ -142,23 +139,6 @@ sent-so r flow (Some s) new so is =
     (Receiver (record r { base = record r.base { local_state = s }; end = record r.end { flow = flow } })) new is))
     ∙ so s refl
 
-flow-state : (attached : Bool) (r : ReceiverState) (flow : LinkFlowStateInner)
-    → state_of (Receiver (if attached then with_flow r flow else r)) ≡ r.base.local_state
-flow-state true r flow = refl
-flow-state false r flow = refl
-
-sender-state : (attached : Bool) (s : Sending) (flow : LinkFlowStateInner)
-    → state_of (Sender (if attached then record s { flow = flow } else s)) ≡ s.base.local_state
-sender-state true s flow = refl
-sender-state false s flow = refl
-
-flowed-state : (e : End) (flow : Option LinkFlow) → state_of (flowed_by e flow) ≡ state_of e
-flowed-state e None = refl
-flowed-state (Sender s) (Some flow) =
-    sender-state (is_attached s.base.local_state) s (sender_flowed s.flow flow)
-flowed-state (Receiver r) (Some flow) =
-    flow-state (is_attached r.base.local_state) r (receiver_flowed r.end.flow flow)
-
 end-waits : (n : ℕ) (e : End) → stands_so (state_of e) ≡ Some true → (k : ℕ) (held : Option Delivery)
     → held_end n e ≡ Some (k, (false, held)) → ⊥
 end-waits n (Sender s) so k held is = none-some _ is
@@ -176,47 +156,35 @@ sender-sent : (o : Option Sending) (new : End) → option_map (λ (s : Sending).
 sender-sent None new is = absurd (none-some new is)
 sender-sent (Some s) new is = subst IsSender (same_Some (Sender s) new is) tt
 
-sender-flowed : (e : End) (flow : Option LinkFlow) → IsSender e → IsSender (flowed_by e flow)
-sender-flowed e None is = is
-sender-flowed (Sender s) (Some flow) is = tt
-sender-flowed (Receiver r) (Some flow) is = absurd is
-
 no-sender-waits : (n : ℕ) (e : End) → IsSender e → (k : ℕ) (held : Option Delivery)
     → held_end n e ≡ Some (k, (false, held)) → ⊥
 no-sender-waits n (Sender s) so k held is = none-some _ is
 no-sender-waits n (Receiver r) so k held is = absurd so
-
-sender-waits : (n : ℕ) (attached new : End) (flow : Option LinkFlow) → IsSender attached
-    → new ≡ flowed_by attached flow → (k : ℕ) (held : Option Delivery) → held_end n new ≡ Some (k, (false, held)) → ⊥
-sender-waits n attached new flow so is k held waits =
-    no-sender-waits n new (subst IsSender (sym is) (sender-flowed attached flow so)) k held waits
 
 -- of one that is new
 abbrev pub IsUnattached : End → Type 0
 IsUnattached (Sender s) = Unit {0}
 IsUnattached (Receiver r) = r.base.local_state ≡ state.Unattached
 
-pub answer-waits : (n : ℕ) (e : End) (attach : Attach) (told : AttachTold) (taken attached new : End)
-    (handle : OutputHandle) (incomplete : Bool) (flow : Option LinkFlow) → IsUnattached e
-    → attaches e attach (Ok told) taken → attach_sent (with_handle taken handle) incomplete ≡ Some attached
-    → new ≡ flowed_by attached flow → (k : ℕ) (held : Option Delivery) → held_end n new ≡ Some (k, (false, held)) → ⊥
-answer-waits n (Receiver r) attach (told.Receiver answer) (Receiver after) attached new handle incomplete flow fresh a
-    sent is k held waits =
+pub answer-waits : (n : ℕ) (e : End) (attach : Attach) (told : AttachTold) (taken new : End) (handle : OutputHandle)
+    (incomplete : Bool) → IsUnattached e → attaches e attach (Ok told) taken
+    → attach_sent (with_handle taken handle) incomplete ≡ Some new → (k : ℕ) (held : Option Delivery)
+    → held_end n new ≡ Some (k, (false, held)) → ⊥
+answer-waits n (Receiver r) attach (told.Receiver answer) (Receiver after) new handle incomplete fresh a sent k held
+    waits =
     let taken =
     taken-received r after attach answer (after_incoming_attach r.base.local_state attach.incomplete_unsettled)
     (attach_error r attach) fresh refl a in
-    let so : stands_so (state_of attached) ≡ Some true =
+    let so : stands_so (state_of new) ≡ Some true =
     sent-so (record after { base = record after.base { output_handle = Some handle } })
     (flow_attached after.end.flow after.end.flow.initial_delivery_count)
-    (after_send_attach after.base.local_state incomplete) attached
+    (after_send_attach after.base.local_state incomplete) new
     (λ s e. answered-so after.base.local_state s incomplete taken e) sent in
-    end-waits n new (ap (λ (x : End). stands_so (state_of x)) is ∙ ap stands_so (flowed-state attached flow) ∙ so) k
-    held waits
-answer-waits n (Sender s) attach (told.Sender answer) (Sender after) attached new handle incomplete flow fresh a sent is
-    k held waits =
-    sender-waits n attached new flow
+    end-waits n new so k held waits
+answer-waits n (Sender s) attach (told.Sender answer) (Sender after) new handle incomplete fresh a sent k held waits =
+    no-sender-waits n new
     (sender-sent
-    (sending.attach_sent (record after { base = record after.base { output_handle = Some handle } }) incomplete)
-    attached sent)
-    is k held waits
-answer-waits n e attach told taken attached new handle incomplete flow fresh a sent is k held waits = absurd a
+    (sending.attach_sent (record after { base = record after.base { output_handle = Some handle } }) incomplete) new
+    sent)
+    k held waits
+answer-waits n e attach told taken new handle incomplete fresh a sent k held waits = absurd a

@@ -39,6 +39,8 @@ mod LeadingStill
 mod HoldingInside
 mod HoldingDone
 mod BehindAttach
+mod AttachedBehind
+mod HoldingAttached
 mod RoomMade
 mod HoldingTalk
 mod HoldingDeeds

@@ -7,6 +7,7 @@ use Rattle.smallvec.specs.SmallVec.{SmallVec}
 use Rattle.amqp_session_types.specs.declared.channels.IncomingChannel.{IncomingChannel}
 use Rattle.amqp_session_types.specs.declared.error.Error.{Error}
 use Rattle.amqp_session_types.specs.declared.handles.OutputHandle.{OutputHandle}
+use Rattle.amqp_session_performatives.specs.declared.link_flow.LinkFlow.{LinkFlow}
 use Rattle.amqp_session_performatives.specs.declared.attach.Attach.{Attach}
 use Rattle.amqp_session_performatives.specs.declared.detach.Detach.{Detach}
 use Rattle.amqp_session_performatives.specs.declared.disposition.Disposition.{Disposition}
@@ -33,7 +34,7 @@ use Rattle.amqp_endpoint_model.specs.declared.event.Event.{Event}
 use Rattle.amqp_endpoint_linking.specs.Hearing.{begin_told, end_told}
 use Rattle.amqp_endpoint_linking.specs.Linking.{Link, Links, Talk}
 use Rattle.amqp_endpoint_messages.specs.All.{first_told, open_count, told_by}
-use Rattle.amqp_endpoint_messages.specs.GivingUp.{AttachedAt, ClosedFor, EndsIf, refused_told}
+use Rattle.amqp_endpoint_messages.specs.GivingUp.{AttachedAt, ClosedFor, EndsIf, attached_told, refused_told}
 use Rattle.amqp_endpoint_links.specs.declared.asking.AttachTaken.TheVariants as answer
 use Rattle.amqp_endpoint_links.specs.declared.hearing.PerformativeTaken.TheVariants as taken
 use Rattle.amqp_endpoint_conversation.specs.declared.hearing.Heard.TheVariants as heard
@@ -80,28 +81,28 @@ closed-unnumbered session error count handle why frames events old new c =
     refl (first-unnumbered count None (link_at c.mid.session handle.0)))
 
 ends-unnumbered : (stuck : Option EndpointError) (session count : ℕ) (handle : OutputHandle) (why : Error)
-    (frames : List SessionFrame) (events : List Event) (old new : Linked)
-    → EndsIf stuck session count handle why frames events old new → Unnumbered events
-ends-unnumbered None session count handle why frames events old new e = told-unnumbered events [] e.1 refl
-ends-unnumbered (Some error) session count handle why frames events old new c =
+    (kept : Option LinkFlow) (frames : List SessionFrame) (events : List Event) (old new : Linked)
+    → EndsIf stuck session count handle why kept frames events old new → Unnumbered events
+ends-unnumbered None session count handle why kept frames events old new e = told-unnumbered events [] e.1 refl
+ends-unnumbered (Some error) session count handle why kept frames events old new c =
     closed-unnumbered session error count handle why frames events old new c
 
-attached-unnumbered : (limit session count : ℕ) (handle : OutputHandle) (why : Error) (aborts : List Abort)
-    (frames : List SessionFrame) (events : List Event) (old new : Linked)
-    → AttachedAt limit session count handle why aborts frames events old new → Unnumbered events
-attached-unnumbered limit session count handle why aborts frames events old new a =
+pub attached-unnumbered : (limit session count : ℕ) (handle : OutputHandle) (why : Error) (aborts : List Abort)
+    (kept : Option LinkFlow) (frames : List SessionFrame) (events : List Event) (old new : Linked)
+    → AttachedAt limit session count handle why aborts kept frames events old new → Unnumbered events
+attached-unnumbered limit session count handle why aborts kept frames events old new a =
     told-unnumbered events _ a.events_are
     (both-unnumbered (first_told count None (link_at old.session handle.0)) a.failed
     (first-unnumbered count None (link_at old.session handle.0))
-    (ends-unnumbered a.stuck session count handle why a.down a.failed a.given new a.ends))
+    (ends-unnumbered a.stuck session count handle why kept a.down a.failed a.given new a.ends))
 
 attach-taken : (outcome : Result Attaching LinkError) (limit session count : ℕ) (handle : OutputHandle) (link : Link)
     (old : Talk) (frames : List SessionFrame) (events : List Event) (new : Talk)
     → LinkTakes outcome limit session count handle link old frames events new → Unnumbered events
 attach-taken (Ok made) limit session count handle link old frames events new t =
     told-unnumbered events _ t.told
-    (both-unnumbered (attaching.attached_told link.number made.exchange) t.behind refl
-    (attached-unnumbered limit session count handle _ made.aborts frames t.behind t.goes.before.value
+    (both-unnumbered (attached_told link.number made.exchange) t.behind refl
+    (attached-unnumbered limit session count handle _ made.aborts None frames t.behind t.goes.before.value
     t.goes.after.value t.goes.done))
 attach-taken (Err error) limit session count handle link old frames events new t =
     closed-unnumbered session _ count handle _ frames events t.before.value t.after.value t.done

@@ -1,26 +1,24 @@
 -- What is done in a session leaves each link under its handle, but where one attaches or leaves.
-use Rattle.std.proofs.Common.{◌≡◌, ℕ, Bool, true, false, List, [], ◌∷◌, Option, Some, None, ap, refl, sym, ◌∙◌}
+use Rattle.std.proofs.Common.{◌≡◌, ℕ, Bool, true, false, List, [], ◌∷◌, Option, Some, None, ap, refl, sym, ◌∙◌, ◌==◌}
+use Rattle.std.specs.Prelude.{if◌then◌else◌}
 use Rattle.amqp_session_types.specs.declared.error.Error.{Error}
 use Rattle.amqp_session_types.specs.declared.handles.InputHandle.{InputHandle}
 use Rattle.amqp_session_types.specs.declared.handles.OutputHandle.{OutputHandle}
 use Rattle.amqp_session_performatives.specs.declared.disposition.Disposition.{Disposition}
-use Rattle.amqp_session_performatives.specs.declared.link_flow.LinkFlow.{LinkFlow}
 use Rattle.amqp_session_performatives.specs.declared.session_frame.SessionFrame.{SessionFrame}
 use Rattle.amqp_session_core.specs.State.{link_at}
 use Rattle.amqp_session_core.specs.Steps.{Changes, SendsBehind, SendsDisposition, SendsTransfers, Step}
 use Rattle.amqp_session_core.specs.declared.batch.BehindFrame.{BehindFrame}
 use Rattle.amqp_session_core.specs.declared.batch.BehindFrame.TheVariants as behind
 use Rattle.amqp_session_core.specs.declared.dispositions.Touched.{Touched}
-use Rattle.amqp_link_base.specs.declared.exchange.AttachExchange.{AttachExchange}
 use Rattle.amqp_link.specs.declared.end.End.{End}
 use Rattle.amqp_endpoint_links.specs.declared.numbered.Numbered.{Numbered}
 use Rattle.amqp_endpoint_model.specs.declared.call.Disposal.{Disposal}
 use Rattle.amqp_endpoint_model.specs.declared.call.Sending.{Sending}
 use Rattle.amqp_endpoint_model.specs.declared.event.Event.{Event}
-use Rattle.amqp_endpoint_attached.specs.Answering.{Replies}
 use Rattle.amqp_endpoint_attached.specs.Detaching.{DetachGiven, is_there, own_detach}
 use Rattle.amqp_endpoint_attached.specs.Linked.{Linked, LinksIn, end_at, end_gives, gives}
-use Rattle.amqp_endpoint_attached.specs.Links.{attach_frame, with_number}
+use Rattle.amqp_endpoint_attached.specs.Links.{with_number}
 use Rattle.amqp_endpoint_attached.specs.Receiving.{receiving}
 use Rattle.amqp_endpoint_attached.specs.Sent.{Sends}
 use Rattle.amqp_endpoint_messages.specs.Disposing.{DisposesOfAll, DisposesOfOne}
@@ -38,6 +36,9 @@ use Rattle.amqp_endpoint_link_calls.specs.Sending.{sends}
 use Rattle.amqp_endpoint_link_hearing.specs.Disposing.{TellsAndEchoes}
 use Rattle.amqp_endpoint_link_hearing.specs.InSession.{AnswersIf, Closes, ClosesIf}
 use Rattle.amqp_endpoint_link_hearing.specs.Transferring.{Remembers, StandsAgain, remembering}
+use Rattle.amqp_endpoint_laws.specs.Held.{number_in}
+use Rattle.amqp_endpoint_laws.proofs.AttachedBehind.{allocates, goes, roomed}
+use Rattle.amqp_endpoint_laws.proofs.BehindAttach.{behind-numbers}
 use Rattle.amqp_endpoint_laws.proofs.Numbers.{KeepNumbers, Placed, kept-on, placed, same-kept, step-kept}
 
 -- a session that stays
@@ -213,27 +214,21 @@ again-kept handle link old new r =
 
 -- a link attaches: it comes to stand under its handle
 module _ (before after : Linked) (limit : ℕ) (link : End) (it : PlacedLink) (frames : List SessionFrame) where
-  module _ (input : InputHandle) (exchange : AttachExchange)
-      (a : AttachedBy (Some input) (Some exchange) before [] limit link it after frames) where
-    replied-kept : (reply : Option LinkFlow)
-        → Replies gives it.handle reply a.mid (attach_frame before.session a.attach ∷ []) after.session frames
-        → KeepNumbers a.mid after.session
-    replied-kept None r = same-kept a.mid after.session r.0
-    replied-kept (Some flow) r =
-        behind-kept it.handle (behind.Flow (record flow { handle = record { 0 = (it.handle).0 } })) (r.sent).left
-        r.frame a.mid after.session (r.sent).stepped
-
-    answer-placed : Placed (it.handle).0 it.link before.session after.session
-    answer-placed =
-        let p = placed end_gives (it.handle).0 (with_number it.link a.becomes) (Some input.0) before.session a.mid
-        a.allocates in
-        record { none = p.none; here = λ other. replied-kept a.reply a.replies other ∙ p.here other }
-
-  pub attached-placed : (input : Option InputHandle) (exchange : Option AttachExchange)
-      → AttachedBy input exchange before [] limit link it after frames
+  pub attached-placed : (input : Option InputHandle) → AttachedBy input before [] limit link it after frames
       → Placed (it.handle).0 it.link before.session after.session
-  attached-placed None None (a, aborts) =
+  attached-placed None (a, told) =
       placed end_gives (it.handle).0 (with_number it.link a.attaching) None before.session after.session a.allocates
-  attached-placed None (Some exchange) a = absurd a
-  attached-placed (Some input) None a = absurd a
-  attached-placed (Some input) (Some exchange) a = answer-placed input exchange a
+  attached-placed (Some input) a =
+      let h = (it.handle).0 in
+      let p =
+      placed end_gives h (with_number it.link (a.answers).becomes) (Some input.0) (a.ready).session (a.mid).session
+      (allocates before after limit link it frames input a) in
+      let same : (other : ℕ) → number_in (a.ready).session other ≡ number_in before.session other = λ other.
+      ap (λ (s : LinksIn). number_in s other) (roomed before after limit link it frames input a) in
+      record {
+        none = sym (same h) ∙ p.none;
+        here = λ other.
+            behind-numbers a.frames a.mid after (goes before after limit link it frames input a) other
+            ∙ p.here other
+            ∙ ap (λ (n : Option ℕ). if other == h then Some it.link else n) (same other);
+      }

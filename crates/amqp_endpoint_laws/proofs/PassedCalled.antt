@@ -14,7 +14,6 @@ use Rattle.amqp_endpoint_model.specs.Said.{Said, attaching, count, credit_is, do
 use Rattle.amqp_endpoint_model.specs.Said.{session_begun, tried_end, truth, waiting}
 use Rattle.amqp_endpoint_linking.specs.Linking.{Talk}
 use Rattle.amqp_endpoint_attached.specs.Links.{attach_frame}
-use Rattle.amqp_endpoint_link_calls.proofs.AttachInside.{attaches-inside}
 use Rattle.amqp_endpoint_link_calls.specs.Calling.{Does, DoneAt, DoneIn, detaches, gives_credit, wants_drain}
 use Rattle.amqp_endpoint_link_calls.specs.Closing.{ClosedAt, ClosedHeld, closes, fails, parted_at}
 use Rattle.amqp_endpoint_link_calls.specs.Places.{LinksBy, Where}
@@ -32,6 +31,7 @@ use Rattle.amqp_endpoint_laws.specs.Following.{goes}
 use Rattle.amqp_endpoint_laws.specs.Reading.{Wired}
 use Rattle.amqp_endpoint_conversation.specs.Inside.{Batches}
 use Rattle.amqp_endpoint_laws.specs.Passed.{called_in, holder}
+use Rattle.amqp_endpoint_laws.proofs.AttachedBehind.{attaches-inside}
 use Rattle.amqp_endpoint_laws.proofs.AskedCameInside.{KeepsBy, attached-keeps, closing-keeps, detaches-keep}
 use Rattle.amqp_endpoint_laws.proofs.AskedCameInside.{disposes-keep, disposes-one-keeps, drains-keep, gives-keeps}
 use Rattle.amqp_endpoint_laws.proofs.AskedCameInside.{failing-keeps, sends-keep}
@@ -128,8 +128,8 @@ module _ {Allows : Batches → Type 0} (P : ℕ → List Wired → Talk → Talk
       (subst (λ (fs : List SessionFrame). P session (goes fs) old new) (sym (l.queued ∙ s.are))
       (w.on session (goes (attach_frame i.before.value.session s.attach ∷ [])) (goes s.later) old old new
       (first session s.attach i.before old (i.stepped).0)
-      (w.inside session [] s.later i.before i.after old new (w.quiet [] tt) i.stepped i.rest s.inside
-      (attached-keeps i.before.value i.after.value limit link a.placed l.frames i.attached.input a.placed.exchange
+      (w.inside session s.accepted s.later i.before i.after old new (w.quiet s.accepted s.up) i.stepped i.rest s.inside
+      (attached-keeps i.before.value i.after.value limit link a.placed l.frames i.attached.input
       i.attached.attached))))
 
   told-alone : (o : Option ℕ) (frames : List SessionFrame) (old new : LinkedSessions) → frames ≡ [] → new ≡ old

@@ -7,16 +7,14 @@ use Rattle.amqp_session_types.specs.declared.handles.OutputHandle.{OutputHandle}
 use Rattle.amqp_session_performatives.specs.declared.attach.Attach.{Attach}
 use Rattle.amqp_session_performatives.specs.declared.session_frame.SessionFrame.{SessionFrame}
 use Rattle.amqp_session_core.specs.State.{link_at}
-use Rattle.amqp_link_base.specs.declared.exchange.AttachExchange.{AttachExchange}
 use Rattle.amqp_link.specs.declared.end.End.{End}
 use Rattle.amqp_link_base.specs.Readings.{Piece}
-use Rattle.amqp_endpoint_attached.specs.Linked.{Linked, gives}
+use Rattle.amqp_endpoint_attached.specs.Linked.{Linked, LinksIn, gives}
 use Rattle.amqp_endpoint_attached.specs.Links.{attach_frame, sender_by}
 use Rattle.amqp_endpoint_laws.specs.Deeds.{AreDone, Deed, Does, IsDeed}
 use Rattle.amqp_endpoint_link_calls.specs.Attaching.{AttachedBy, with_room}
 use Rattle.amqp_endpoint_link_calls.specs.Naming.{name_of}
 use Rattle.amqp_endpoint_link_calls.specs.declared.placed.Placed.{Placed}
-use Rattle.amqp_endpoint_link_calls.proofs.AttachInside.{AttachesInside, attaches-inside}
 use Rattle.amqp_endpoint.specs.Attaching.{LinkAttached}
 use Rattle.amqp_endpoint.specs.Does.{linked}
 use Rattle.amqp_endpoint.specs.declared.linked.LinkedSessions.{LinkedSessions}
@@ -40,33 +38,36 @@ use Rattle.amqp_endpoint_model.specs.declared.link.LinkSettings.{LinkSettings}
 use Rattle.amqp_endpoint_conversation.specs.Windows.{Passing, went}
 use Rattle.amqp_endpoint_laws.specs.Passed.{PassesIn, sent_in}
 use Rattle.amqp_endpoint_laws.specs.Queued.{AttachesFirst, SayMessages, messages_by, pieces_on, pieces_waiting, queued}
+use Rattle.amqp_endpoint_laws.proofs.AttachedBehind.{AttachesInside, allocates, attaches-inside, roomed}
+use Rattle.amqp_endpoint_laws.proofs.GivenUp.{AllAborted, aborted-first, aborted-later}
 use Rattle.amqp_endpoint_laws.proofs.LinksKept.{BackGoesOn, FinishedGoesOn, LeftGoesOn}
 use Rattle.amqp_endpoint_laws.proofs.LinksStay.{held-since}
 use Rattle.amqp_endpoint_laws.proofs.PassedKept.{some-passes}
 use Rattle.amqp_endpoint_laws.proofs.PassedPlaces.{by-steps, eq-same}
 use Rattle.amqp_endpoint_laws.proofs.PassedSteps.{goes-did, sent-went, session-come}
-use Rattle.amqp_endpoint_laws.proofs.QueuedKept.{Queued, QueuedAt, SaysAt, more-queued, queued-here}
-use Rattle.amqp_endpoint_laws.proofs.QueuedOrder.{behind-none, since-new}
-use Rattle.amqp_endpoint_laws.proofs.QueuedSaid.{bare, map-both, says-bare, says-none}
+use Rattle.amqp_endpoint_laws.proofs.QueuedKept.{Queued, QueuedAt, SaysAt, aborted-bare, bare-aborted, more-queued}
+use Rattle.amqp_endpoint_laws.proofs.QueuedKept.{pieces-aborted, queued-here}
+use Rattle.amqp_endpoint_laws.proofs.QueuedOrder.{pieces_by, since-new}
+use Rattle.amqp_endpoint_laws.proofs.QueuedSaid.{bare, map-both, says-aborted, says-bare, says-none}
 use Rattle.amqp_endpoint_laws.proofs.QueuedSince.{done-of, held-same, since}
 
 module _ (before after : Linked) (limit : ℕ) (its : LinkSettings) (placed : Placed) (frames : List SessionFrame) where
   -- no link had its handle
-  handle-free : (input : Option InputHandle) (exchange : Option AttachExchange)
-      → AttachedBy input exchange before [] limit (sender_by its) placed after frames
+  handle-free : (input : Option InputHandle) → AttachedBy input before [] limit (sender_by its) placed after frames
       → link_at before.session placed.handle.0 ≡ None
-  handle-free None None (a, aborts) = (a.allocates).1
-  handle-free None (Some exchange) a = absurd a
-  handle-free (Some input) None a = absurd a
-  handle-free (Some input) (Some exchange) a = (a.allocates).2
+  handle-free None (a, told) = (a.allocates).1
+  handle-free (Some input) a =
+      sym (ap (λ (s : LinksIn). link_at s placed.handle.0) (roomed before after limit (sender_by its) placed frames
+      input a))
+      ∙ (allocates before after limit (sender_by its) placed frames input a).2
 
 -- a session that goes on
-goes-queued : (h : ℕ) (it : Stood) (before after : Session) → live_of (Some it) ≡ Some before
-    → Queued h [] after.value.session [] → QueuedAt h [] (Some (with_live it after)) []
-goes-queued h (Live channel s) before after is q = q
-goes-queued h (Asked channel a) before after is q = absurd (none-some before is)
-goes-queued h (Ending channel own_end) before after is q = absurd (none-some before is)
-goes-queued h (Over peer_end complete) before after is q = absurd (none-some before is)
+goes-queued : (h : ℕ) (w : List Piece) (it : Stood) (before after : Session) → live_of (Some it) ≡ Some before
+    → Queued h w after.value.session [] → QueuedAt h w (Some (with_live it after)) []
+goes-queued h w (Live channel s) before after is q = q
+goes-queued h w (Asked channel a) before after is q = absurd (none-some before is)
+goes-queued h w (Ending channel own_end) before after is q = absurd (none-some before is)
+goes-queued h w (Over peer_end complete) before after is q = absurd (none-some before is)
 
 -- sessions that were new, and stand so behind some deeds
 pub record Reached (s : LinkedSessions) : Type 0 where
@@ -115,11 +116,6 @@ module _ (old new : LinkedSessions) (limit number : ℕ) (it : End) (link : ℕ)
       (eq-same a.placed.link) in
       (ap (λ (k : ℕ). slot_at old.links k) a.numbered ∙ none, ap (λ (k : ℕ). slot_at new.links k) a.numbered ∙ some)
 
--- where nothing is queued nothing passed
-front-none : (ps qs : List Piece) → map bare ps ++ qs ≡ [] → ps ≡ []
-front-none [] qs none = refl
-front-none (p ∷ ps) qs none = absurd cc
-
 module _ (handles_apart : HandlesApart) (back_on : BackGoesOn) (left_on : LeftGoesOn) (finished_on : FinishedGoesOn)
   where
     module _ (sessions old new end : LinkedSessions) (settings : Settings) (before since_then : List Deed)
@@ -167,8 +163,16 @@ module _ (handles_apart : HandlesApart) (back_on : BackGoesOn) (left_on : LeftGo
               named = ap (λ (x : Attach). x.name) attach-inside.announces.is;
             }
 
-        -- nothing of its handle goes behind its Attach, and nothing waits
-        attach-queued : Queued handle.0 [] a.attaches.attaches.after.value.session (went attach-inside.later)
+        -- what goes of its handle behind its Attach, and what waits, was accepted: it gives deliveries up
+        abbrev given_up : List Piece
+        given_up = map bare (pieces_by handle.0 attach-inside.accepted)
+
+        are-given-up : AllAborted given_up
+        are-given-up =
+            bare-aborted (pieces_by handle.0 attach-inside.accepted)
+            (pieces-aborted handle.0 attach-inside.accepted attach-inside.up)
+
+        attach-queued : Queued handle.0 given_up a.attaches.attaches.after.value.session (went attach-inside.later)
         attach-queued =
             let i = a.attaches.attaches in
             let (stood, was, lives, becomes) =
@@ -183,21 +187,31 @@ module _ (handles_apart : HandlesApart) (back_on : BackGoesOn) (left_on : LeftGo
             let free : link_at i.before.value.session handle.0 ≡ None =
             subst (λ (k : OutputHandle). link_at i.before.value.session k.0 ≡ None) same-handle
             (handle-free i.before.value i.after.value limit its a.placed a.attaches.frames i.attached.input
-            a.placed.exchange i.attached.attached) in
-            more-queued handle.0 [] [] i.before.value.session i.after.value.session [] (went attach-inside.later)
-            (goes-did [] i.before.value.session i.after.value.session (went attach-inside.later)
+            i.attached.attached) in
+            more-queued handle.0 attach-inside.accepted [] i.before.value.session i.after.value.session []
+            (went attach-inside.later)
+            (goes-did attach-inside.accepted i.before.value.session i.after.value.session (went attach-inside.later)
             (by-steps attach-inside.later attach-inside.inside refl))
             (record { apart = apart; order = ap (λ (qs : List Piece). map bare qs) (none handle.0 free) })
 
-        pub nothing-sent : pieces_on handle.0 frames ≡ []
-        nothing-sent =
-            ap (λ (fs : List SessionFrame). pieces_on handle.0 fs)
-            (a.attaches.queued ∙ attach-inside.are
-            ∙ ap
-            (λ (fs : List SessionFrame).
-            attach_frame a.attaches.attaches.before.value.session attach-inside.attach ∷ fs)
-            (sym (sent-went attach-inside.later)))
-            ∙ front-none (pieces_on handle.0 (sent_in (went attach-inside.later))) _ attach-queued.order
+        abbrev passed_then : List Piece
+        passed_then = map bare (pieces_on handle.0 (sent_in (went attach-inside.later)))
+
+        abbrev waits_then : List Piece
+        waits_then = map bare (pieces_waiting handle.0 a.attaches.attaches.after.value.session)
+
+        both-given-up : AllAborted (passed_then ++ waits_then)
+        both-given-up = subst (λ (ps : List Piece). AllAborted ps) (sym attach-queued.order) are-given-up
+
+        pub aborted-sent : AllAborted (pieces_on handle.0 frames)
+        aborted-sent =
+            let sent : AllAborted (pieces_on handle.0 (sent_in (went attach-inside.later))) =
+            aborted-bare (pieces_on handle.0 (sent_in (went attach-inside.later)))
+            (aborted-first passed_then waits_then both-given-up) in
+            subst (λ (fs : List SessionFrame). AllAborted (pieces_on handle.0 fs))
+            (sym (a.attaches.queued ∙ attach-inside.are))
+            (subst (λ (fs : List SessionFrame). AllAborted (pieces_on handle.0 fs)) (sent-went attach-inside.later)
+            sent)
 
         says-first : SaysAt handle.0 [] (place_at new.talk.sessions number) []
         says-first =
@@ -205,19 +219,15 @@ module _ (handles_apart : HandlesApart) (back_on : BackGoesOn) (left_on : LeftGo
             let (stood, was, lives, becomes) =
             (at number old.talk.sessions (ChangesLive number i.before i.after) new.talk.sessions i.stepped).about
             (eq-same number) in
-            let now : Queued handle.0 [] i.after.value.session [] =
+            let now : Queued handle.0 waits_then i.after.value.session [] =
+            record { apart = attach-queued.apart; order = refl } in
             record {
-              apart = attach-queued.apart;
-              order =
-                  behind-none (map bare (pieces_on handle.0 (sent_in (went attach-inside.later))))
-                  (map bare (pieces_waiting handle.0 i.after.value.session)) attach-queued.order;
-            } in
-            record {
-              accepted = [];
+              accepted = waits_then;
               queued =
-                  subst (λ (o : Option Stood). QueuedAt handle.0 [] o []) (sym becomes)
-                  (goes-queued handle.0 stood i.before i.after lives now);
-              says = says-none;
+                  subst (λ (o : Option Stood). QueuedAt handle.0 waits_then o []) (sym becomes)
+                  (goes-queued handle.0 waits_then stood i.before i.after lives now);
+              says =
+                  says-aborted [] waits_then [] (aborted-later passed_then waits_then both-given-up) says-none;
             }
 
         pub reached-new : Reached new

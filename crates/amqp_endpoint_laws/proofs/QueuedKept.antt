@@ -128,15 +128,19 @@ if-aborted : (here : Bool) (ps : List Piece) → AllAborted ps → AllAborted (i
 if-aborted true ps are = are
 if-aborted false ps are = tt
 
-pieces-aborted : (h : ℕ) (batches : Batches) → GiveUp batches → AllAborted (pieces_by h batches)
+pub pieces-aborted : (h : ℕ) (batches : Batches) → GiveUp batches → AllAborted (pieces_by h batches)
 pieces-aborted h [] none = tt
 pieces-aborted h ((k, batch) ∷ others) (one, rest) =
     aborted-both (if k == h then pieces_of batch else []) (pieces_by h others)
     (if-aborted (k == h) (pieces_of batch) one) (pieces-aborted h others rest)
 
-bare-aborted : (ps : List Piece) → AllAborted ps → AllAborted (map bare ps)
+pub bare-aborted : (ps : List Piece) → AllAborted ps → AllAborted (map bare ps)
 bare-aborted [] none = tt
 bare-aborted (p ∷ ps) (one, others) = (one, bare-aborted ps others)
+
+pub aborted-bare : (ps : List Piece) → AllAborted (map bare ps) → AllAborted ps
+aborted-bare [] none = tt
+aborted-bare (p ∷ ps) (one, others) = (one, aborted-bare ps others)
 
 module _ (h : ℕ) where
   queued-still : (first : ℕ) (old new : Option Stood) → new ≡ old → StaysQueued h first old [] new

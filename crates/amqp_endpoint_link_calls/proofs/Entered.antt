@@ -11,7 +11,7 @@ use Rattle.amqp_endpoint_tables.specs.LinkSteps.{Enters, Step}
 use Rattle.amqp_endpoint_link_calls.specs.Attaching.{AttachesIn, LinkAttaches, with_room}
 use Rattle.amqp_endpoint_link_calls.specs.Naming.{name_of}
 use Rattle.amqp_endpoint_link_calls.specs.Places.{LinkTalk, LinksBy}
-use Rattle.amqp_endpoint_link_calls.specs.Refusals.{BarsIn, BarsMade, BarsPlacing, MayAttach, RefusesIn}
+use Rattle.amqp_endpoint_link_calls.specs.Refusals.{BarsIn, BarsPlacing, MayAttach, RefusesIn}
 use Rattle.amqp_endpoint_link_calls.specs.Refusals.{of_refusal}
 use Rattle.amqp_endpoint_link_calls.specs.declared.placed.Placed.{Placed}
 use Rattle.amqp_endpoint_link_calls.proofs.Own.{own}
@@ -57,23 +57,6 @@ module _ (old new : LinkTalk) (links mid links_new : LinksBy) (out out_new : Lis
       enters))
   all-attach mapped roomy named next (Err e) attaches numbered enters = tt
 
-module _ {X : Type 0} (old new : LinkTalk) (out out_new : List SessionFrame) (limit session : ℕ) (link : End)
-    (made : Result End X) where
-  -- the link that was made
-  pub made-attaches : IfOk made (λ l. l ≡ link) → (r : Result Placed EndpointError)
-      → IfOk r (λ placed. (l : End) × (made ≡ Ok l) × AttachesIn old out limit session l placed new out_new)
-      → IfOk r (λ placed. AttachesIn old out limit session link placed new out_new)
-  made-attaches by (Ok placed) (l, is, attaches) =
-      subst (λ (x : End). AttachesIn old out limit session x placed new out_new)
-      (subst (λ (m : Result End X). IfOk m (λ x. x ≡ link)) is by) attaches
-  made-attaches by (Err e) attaches = tt
-
-  pub attaches-made : made ≡ Ok link → (r : Result Placed EndpointError)
-      → IfOk r (λ placed. AttachesIn old out limit session link placed new out_new)
-      → IfOk r (λ placed. (l : End) × (made ≡ Ok l) × AttachesIn old out limit session l placed new out_new)
-  attaches-made is (Ok placed) attaches = (link, is, attaches)
-  attaches-made is (Err e) attaches = tt
-
 module _ (limit : ℕ) (talk : LinkTalk) (links : LinksBy) (session : ℕ) (link : End)
     (may : MayAttach talk links session (name_of link)) where
   by-refusal : (refused : AttachRefusal) → RefusesIn limit talk session link refused
@@ -90,20 +73,7 @@ module _ (limit : ℕ) (talk : LinkTalk) (links : LinksBy) (session : ℕ) (link
       subst (λ (x : EndpointError). BarsPlacing limit talk links session link x) (sym is)
       (by-refusal refused refuses)
 
-  pub bars-made : {X : Type 0} (made : Result End X) (e : EndpointError)
-      → IfOk made (λ l. l ≡ link) → BarsMade limit talk session made e → BarsPlacing limit talk links session link e
-  bars-made (Ok l) e is bars =
-      bars-placing e (subst (λ (x : End). BarsIn limit talk session x e) is bars)
-  bars-made (Err x) e is bars =
-      subst (λ (y : EndpointError). BarsPlacing limit talk links session link y) (sym bars) may
-
   pub all-bars : (r : Result Placed EndpointError) → IfErr r (BarsIn limit talk session link)
       → IfErr r (BarsPlacing limit talk links session link)
   all-bars (Ok placed) bars = tt
   all-bars (Err e) bars = bars-placing e bars
-
-  pub all-bars-made : {X : Type 0} (made : Result End X) → IfOk made (λ l. l ≡ link)
-      → (r : Result Placed EndpointError) → IfErr r (BarsMade limit talk session made)
-      → IfErr r (BarsPlacing limit talk links session link)
-  all-bars-made made by (Ok placed) bars = tt
-  all-bars-made made by (Err e) bars = bars-made made e by bars

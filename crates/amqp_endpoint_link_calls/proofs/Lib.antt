@@ -16,5 +16,5 @@ pub mod Own
 pub mod AttachGoing
 pub mod Entered
 pub mod Looked
-pub mod AttachInside
 pub mod Unsent
+mod AskedAnswered

@@ -162,11 +162,4 @@ module _ (limit : ℕ) (talk : LinkTalk) (links : LinksBy) (session : ℕ) (link
   all-clear-bars clear (Ok placed) bars = tt
   all-clear-bars clear (Err e) bars = clear-bars clear e bars
 
-  -- so it does in place of all
-  pub no-memory : {X : Type 0} → FindsAttaching talk links session link None → (r : Result X EndpointError)
-      → IfErr r (λ e. e ≡ Memory) → IfErr r (BarsAttaching limit talk links session link)
-  no-memory clear (Ok x) is = tt
-  no-memory clear (Err e) is =
-      subst (λ (x : EndpointError). BarsAttaching limit talk links session link x) (sym is) (clear.0, inl clear.1)
-
 pub ruleset names = (in-use)

@@ -3,39 +3,58 @@ use Rattle.std.specs.Prelude.{◌≡◌, ℕ, max, List, [], ◌++◌, Option, S
 use Rattle.std.specs.Global.{Box}
 use Rattle.amqp_session_types.specs.declared.handles.InputHandle.{InputHandle}
 use Rattle.amqp_session_performatives.specs.declared.session_frame.SessionFrame.{SessionFrame}
-use Rattle.amqp_link_base.specs.declared.exchange.AttachExchange.{AttachExchange}
 use Rattle.amqp_link.specs.declared.end.End.{End}
 use Rattle.amqp_endpoint_attached.specs.Answering.{Answers}
 use Rattle.amqp_endpoint_attached.specs.Attaching.{Attaches}
 use Rattle.amqp_endpoint_attached.specs.Linked.{Linked}
 use Rattle.amqp_endpoint_attached.specs.declared.answering.Answered.{Answered}
 use Rattle.amqp_endpoint_conversation.specs.Ending.{IsMapped}
+use Rattle.amqp_endpoint_messages.specs.All.{open_count}
+use Rattle.amqp_endpoint_messages.specs.GivingUp.{AttachedAt, attached_told}
+use Rattle.amqp_endpoint_messages.specs.MadeReady.{MadeRoom}
+use Rattle.amqp_endpoint_model.specs.State.{error_of}
+use Rattle.amqp_endpoint_model.specs.Step.{not_allowed}
+use Rattle.amqp_endpoint_model.specs.declared.event.Event.{Event}
 use Rattle.amqp_endpoint_tables.specs.LinkSteps.{Enters, Step as NamesStep}
 use Rattle.amqp_endpoint_tables.specs.Steps.{ChangesLive, Step}
 use Rattle.amqp_endpoint_link_calls.specs.Naming.{Meets, name_of}
 use Rattle.amqp_endpoint_link_calls.specs.Places.{LinkTalk, LinksBy}
 use Rattle.amqp_endpoint_link_calls.specs.declared.placed.Placed.{Placed}
 
--- what is left to be done where it answered a link of the peer's
-abbrev pub answered_of : Placed → AttachExchange → Answered
-answered_of placed exchange = record { handle = placed.handle; exchange = exchange; aborts = placed.aborts }
+-- a link answers the one that the peer asks for with this handle (2.6.3): first room is made; it answers with its own
+-- Attach; and it goes on as a link does that is attached at both ends, with what was kept of a Flow
+pub record AnswersAsked (before : Linked) (out : List SessionFrame) (limit : ℕ) (link : End) (input : InputHandle)
+    (placed : Placed) (after : Linked) (out_new : List SessionFrame) : Type 0 where
+  pub ready : Linked
+  pub makes_room : MadeRoom before ready
+  pub answered : Answered
+  pub handled : answered.handle ≡ placed.handle
+  pub mid : Linked
+  pub out_mid : List SessionFrame
+  pub answers : Answers ready out limit placed.link link input answered mid out_mid
+  pub frames : List SessionFrame
+  pub behind : List Event
+  pub goes :
+      AttachedAt limit placed.session (open_count (Some link)) placed.handle (error_of not_allowed) answered.aborts
+      answered.kept frames behind mid after
+  pub queued : out_new ≡ out_mid ++ frames
+  pub told : placed.events.items ≡ attached_told placed.link answered.exchange ++ behind
 
--- a link attaches in a session: of itself, or in answer to the one that the peer asks for, where that exchange says
--- what both Attach leave to be done
-abbrev pub AttachedBy : Option InputHandle → Option AttachExchange → Linked → List SessionFrame → ℕ → End → Placed
-    → Linked → List SessionFrame → Type 0
-AttachedBy None None before out limit link placed after out_new =
-    Attaches before out limit placed.link link placed.handle after out_new × (placed.aborts ≡ [])
-AttachedBy (Some input) (Some exchange) before out limit link placed after out_new =
-    Answers before out limit placed.link link input (answered_of placed exchange) after out_new
-AttachedBy input exchange before out limit link placed after out_new = ⊥
+-- a link attaches in a session: of itself, and waits for the peer's Attach, or in answer to the one that the peer asks
+-- for
+abbrev pub AttachedBy : Option InputHandle → Linked → List SessionFrame → ℕ → End → Placed → Linked
+    → List SessionFrame → Type 0
+AttachedBy None before out limit link placed after out_new =
+    Attaches before out limit placed.link link placed.handle after out_new × (placed.events.items ≡ [])
+AttachedBy (Some input) before out limit link placed after out_new =
+    AnswersAsked before out limit link input placed after out_new
 
 -- it does so by whether the peer asks for it there
 pub record AttachesOne (before : Linked) (out : List SessionFrame) (limit : ℕ) (link : End) (placed : Placed)
     (after : Linked) (out_new : List SessionFrame) : Type 0 where
   pub input : Option InputHandle
   pub meets : Meets before.asked link input
-  pub attached : AttachedBy input placed.exchange before out limit link placed after out_new
+  pub attached : AttachedBy input before out limit link placed after out_new
 
 -- it does so in the session with this number, and no other changes
 pub record AttachesIn (old : LinkTalk) (out : List SessionFrame) (limit session : ℕ) (link : End) (placed : Placed)

@@ -8,5 +8,6 @@ pub mod Keeping
 pub mod Refusing
 pub mod Disposing
 pub mod Naming
+pub mod Answering
 pub mod Attaching
 pub mod Refusals

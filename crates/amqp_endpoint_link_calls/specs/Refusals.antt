@@ -1,5 +1,5 @@
 -- Why a link doesn't attach in one of an endpoint's sessions: part 2, 2.5.5, 2.6.1, 2.6.3, 2.7.2, 2.7.3.
-use Rattle.std.specs.Prelude.{◌≡◌, ◌<◌, ◌⊎◌, ℕ, List, Option, Some, None, IsSome, option_map, Result, Ok, Err}
+use Rattle.std.specs.Prelude.{◌≡◌, ◌<◌, ◌⊎◌, ℕ, List, Option, Some, None, IsSome, option_map}
 use Rattle.std.specs.FinMap as map
 use Rattle.std.specs.Global.{Box}
 use Rattle.amqp_session_types.specs.declared.handles.InputHandle.{InputHandle}
@@ -86,11 +86,6 @@ pub record FindsSaid (talk : LinkTalk) (session : ℕ) (link : End) (said : Opti
   pub found : Option AttachRefusal
   pub finds : FindsIn talk session link found
   pub says : said ≡ option_map of_refusal found
-
--- likewise of a link that was made, or that there was no memory for it
-abbrev pub BarsMade : {X : Type 0} → ℕ → LinkTalk → ℕ → Result End X → EndpointError → Type 0
-BarsMade limit talk session (Ok link) e = BarsIn limit talk session link e
-BarsMade limit talk session (Err error) e = e ≡ Memory
 
 -- a link that isn't closed has this name
 abbrev pub IsInUse : LinksBy → List ℕ → Type 0

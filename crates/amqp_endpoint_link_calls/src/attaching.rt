@@ -1,12 +1,10 @@
 //! How a link attaches in one of an endpoint's sessions (part 2, 2.6.3).
-ghost use Rattle.std.specs.Prelude.{◌≡◌, ℕ, true, Ok, IfErr, IfOk, OnErr};
+ghost use Rattle.std.specs.Prelude.{◌≡◌, ◌≤◌, true, IfErr, IfOk, OnErr};
 ghost use Rattle.amqp_link.specs.Ends.{state_of};
-ghost use Rattle.amqp_link.specs.declared.end.End.{End};
 ghost use Rattle.amqp_endpoint_attached.specs.Links.{is_at_rest, receiver_by, sender_by};
-ghost use Rattle.amqp_endpoint_conversation.specs.Ending.{IsMapped};
-ghost use Rattle.amqp_endpoint_conversation.specs.Going.{Goes, Rests, Within};
-ghost use Rattle.amqp_endpoint_link_calls.specs.Attaching.{AttachesIn, LinkAttaches};
-ghost use Rattle.amqp_endpoint_link_calls.specs.Refusals.{BarsAttaching, BarsMade, BarsPlacing};
+ghost use Rattle.amqp_endpoint_conversation.specs.Going.{Goes, Rests};
+ghost use Rattle.amqp_endpoint_link_calls.specs.Attaching.{LinkAttaches};
+ghost use Rattle.amqp_endpoint_link_calls.specs.Refusals.{BarsAttaching, BarsPlacing};
 
 use crate::LinkTalk;
 use crate::entering::{enter, prepare};
@@ -19,14 +17,18 @@ use amqp_endpoint_tables::Links;
 use amqp_link::LinkEnd;
 use amqp_session_performatives::SessionFrame;
 use amqp_session_types::Role;
-use std::alloc::{AllocError, Global};
+use std::alloc::Global;
 use std::collections::VecDeque;
 
-/// Attaches a link, which is at rest, in the session with this number (part 2, 2.6.3). It gets the next number, and
-/// the session holds it under the handle that it offers. Where the peer asks there for a link of its name, and has the
-/// other end of it, the link answers that: it takes the peer's Attach, and replies to what was kept of a Flow (part 2,
-/// 2.7.4). Its own Attach is handed out, before that reply; it lists as many of the link's unsettled deliveries as a
-/// frame of `limit` bytes holds. What is handed out fits `limit`.
+/// Attaches a link, which is at rest, in the session with this number (part 2, 2.6.3). It gets the next number, and the
+/// session holds it under the handle that it offers. Its own Attach is handed out; it lists as many of the link's
+/// unsettled deliveries as a frame of `limit` bytes holds. Where the peer asks there for a link of its name, and has
+/// the other end of it, the link answers that, and takes the peer's Attach: `Attached` is told, and behind that the
+/// outcomes of its messages that the peer's list decides; then it gives up the deliveries that are to be given up, in
+/// their order, each by a transfer of its own (part 2, 2.6.13), and takes what was kept of a Flow, to which it replies
+/// where that wants it (part 2, 2.7.4). Where no frame of `limit` bytes holds one of these transfers, or its number is
+/// in use, the link is closed instead: `Refused` is told with `FrameTooLarge` or `NumberInUse`, and behind that the
+/// outcomes of its messages that end by it. What is handed out fits a `limit` of 512 or more.
 ///
 /// It is refused, tested in this order, with `UnknownSession` exactly where no session has the number; with
 /// `IllegalState` exactly where the session isn't mapped (part 2, 2.5.5); with `DuplicatedLinkName` exactly where a
@@ -52,8 +54,7 @@ pub fn attach(
     ensures err { IfErr result (BarsPlacing limit talk.old links.old session link) }
     ensures kept { OnErr result
         ((talk.new ≡ talk.old) × (links.new ≡ links.old) × (out.new.items ≡ out.old.items)) }
-    ensures goes { Goes limit talk.old talk.new out.old.items out.new.items }
-    ensures waits { (most : ℕ) → Within most talk.old → Within most talk.new }
+    ensures goes { 512 ≤ limit → Goes limit talk.old talk.new out.old.items out.new.items }
     ensures rests { Rests talk.old talk.new out.old.items out.new.items }
 {
     let room = links.room();
@@ -83,42 +84,16 @@ pub fn attach_sender(
         (sender_by settings.now)) }
     ensures kept { OnErr result
         ((talk.new ≡ talk.old) × (links.new ≡ links.old) × (out.new.items ≡ out.old.items)) }
-    ensures goes { Goes limit talk.old talk.new out.old.items out.new.items }
-    ensures waits { (most : ℕ) → Within most talk.old → Within most talk.new }
+    ensures goes { 512 ≤ limit → Goes limit talk.old talk.new out.old.items out.new.items }
     ensures rests { Rests talk.old talk.new out.old.items out.new.items }
 {
     match attach_refusal(talk, links, alloc, session, Role::Sender, settings) {
         Some(refusal) => Err(refusal),
-        None => place_sender(talk, links, alloc, limit, session, settings, out),
+        None => match sender(alloc, settings) {
+            Ok(link) => attach(talk, links, alloc, limit, session, link, out),
+            Err(_) => Err(EndpointError::Memory),
+        },
     }
-}
-
-/// One that sends attaches, which is made. `Memory` may stand in place of each refusal behind `DuplicatedLinkName`.
-fn place_sender(
-    talk: &mut LinkTalk,
-    links: &mut Links<LinkEnd>,
-    alloc: Global,
-    limit: u32,
-    session: u64,
-    settings: &LinkSettings,
-    out: &mut VecDeque<SessionFrame>,
-) -> Result<Placed, EndpointError>
-    ensures ok { IfOk result (λ placed. LinkAttaches talk.old links.old out.old.items limit session
-        (sender_by settings.now) placed talk.new links.new out.new.items) }
-    ensures err { IfErr result (BarsPlacing limit talk.old links.old session
-        (sender_by settings.now)) }
-    ensures kept { OnErr result
-        ((talk.new ≡ talk.old) × (links.new ≡ links.old) × (out.new.items ≡ out.old.items)) }
-    ensures goes { Goes limit talk.old talk.new out.old.items out.new.items }
-    ensures waits { (most : ℕ) → Within most talk.old → Within most talk.new }
-    ensures rests { Rests talk.old talk.new out.old.items out.new.items }
-{
-    let room = links.room();
-    let name = prepare(talk, links, session, &settings.name)?;
-    let link = sender(alloc, settings);
-    let placed = attach_made(talk, alloc, limit, session, links.next_number(), link, out);
-    enter(links, room, name, &placed);
-    placed
 }
 
 /// Attaches a receiving link with these settings in the session with this number, as `attach_sender` does a sending
@@ -140,67 +115,14 @@ pub fn attach_receiver(
         (receiver_by settings.now)) }
     ensures kept { OnErr result
         ((talk.new ≡ talk.old) × (links.new ≡ links.old) × (out.new.items ≡ out.old.items)) }
-    ensures goes { Goes limit talk.old talk.new out.old.items out.new.items }
-    ensures waits { (most : ℕ) → Within most talk.old → Within most talk.new }
+    ensures goes { 512 ≤ limit → Goes limit talk.old talk.new out.old.items out.new.items }
     ensures rests { Rests talk.old talk.new out.old.items out.new.items }
 {
     match attach_refusal(talk, links, alloc, session, Role::Receiver, settings) {
         Some(refusal) => Err(refusal),
-        None => place_receiver(talk, links, alloc, limit, session, settings, out),
-    }
-}
-
-/// One that receives attaches, which is made. `Memory` may stand in place of each refusal behind `DuplicatedLinkName`.
-fn place_receiver(
-    talk: &mut LinkTalk,
-    links: &mut Links<LinkEnd>,
-    alloc: Global,
-    limit: u32,
-    session: u64,
-    settings: &LinkSettings,
-    out: &mut VecDeque<SessionFrame>,
-) -> Result<Placed, EndpointError>
-    ensures ok { IfOk result (λ placed. LinkAttaches talk.old links.old out.old.items limit session
-        (receiver_by settings.now) placed talk.new links.new out.new.items) }
-    ensures err { IfErr result (BarsPlacing limit talk.old links.old session
-        (receiver_by settings.now)) }
-    ensures kept { OnErr result
-        ((talk.new ≡ talk.old) × (links.new ≡ links.old) × (out.new.items ≡ out.old.items)) }
-    ensures goes { Goes limit talk.old talk.new out.old.items out.new.items }
-    ensures waits { (most : ℕ) → Within most talk.old → Within most talk.new }
-    ensures rests { Rests talk.old talk.new out.old.items out.new.items }
-{
-    let room = links.room();
-    let name = prepare(talk, links, session, &settings.name)?;
-    let link = receiver(alloc, settings);
-    let placed = attach_made(talk, alloc, limit, session, links.next_number(), link, out);
-    enter(links, room, name, &placed);
-    placed
-}
-
-/// A link attaches in the session with this number, if it was made, and is to have that number of its own.
-fn attach_made(
-    talk: &mut LinkTalk,
-    alloc: Global,
-    limit: u32,
-    session: u64,
-    number: u64,
-    made: Result<LinkEnd, AllocError>,
-    out: &mut VecDeque<SessionFrame>,
-) -> Result<Placed, EndpointError>
-    requires mapped { IsMapped talk.old session }
-    requires at_rest { IfOk made (λ link. is_at_rest (state_of link) ≡ true) }
-    ensures ok { IfOk result (λ placed. (link : End) × (made ≡ Ok link)
-        × AttachesIn talk.old out.old.items limit session link placed talk.new out.new.items) }
-    ensures numbered { IfOk result (λ placed. placed.link ≡ number) }
-    ensures err { IfErr result (BarsMade limit talk.old session made) }
-    ensures kept { OnErr result ((talk.new ≡ talk.old) × (out.new.items ≡ out.old.items)) }
-    ensures goes { Goes limit talk.old talk.new out.old.items out.new.items }
-    ensures waits { (most : ℕ) → Within most talk.old → Within most talk.new }
-    ensures rests { Rests talk.old talk.new out.old.items out.new.items }
-{
-    match made {
-        Ok(link) => attach_live(talk, alloc, limit, session, number, link, out),
-        Err(_) => Err(EndpointError::Memory),
+        None => match receiver(alloc, settings) {
+            Ok(link) => attach(talk, links, alloc, limit, session, link, out),
+            Err(_) => Err(EndpointError::Memory),
+        },
     }
 }

@@ -33,7 +33,6 @@ pub use crediting::{drain, grant};
 pub use detaching::detach;
 pub use disposing::{dispose, dispose_all};
 pub use holding::{LinkTalk, holder};
-pub use looking::attach_refusal;
 pub use placed::Placed;
 pub use seeing::credit;
 pub use sending::{send, send_refusal};

@@ -24,7 +24,7 @@ use std::alloc::Global;
 /// anything grows: the first that holds of what `attach_sender` and `attach_receiver` test, but for whether its own
 /// Attach fits, and `Session(HandleInUse)`. It takes memory for the list alone of the filters that the peer doesn't
 /// apply: `Memory` stands in place of that list.
-pub fn attach_refusal(
+pub(crate) fn attach_refusal(
     talk: &LinkTalk,
     links: &Links<LinkEnd>,
     alloc: Global,

@@ -1,8 +1,6 @@
 //! What comes of a link that attaches.
-use amqp_link_base::AttachExchange;
-use amqp_link_unsettled::Abort;
+use amqp_endpoint_model::Event;
 use amqp_session_types::OutputHandle;
-use serde_amqp_types::Array;
 
 /// What comes of a link that attaches in a session (part 2, 2.6.3).
 #[derive(Debug, Drop)]
@@ -13,10 +11,7 @@ pub struct Placed {
     pub session: u64,
     /// The own handle that it got there (part 2, 2.6.2).
     pub handle: OutputHandle,
-    /// What the two Attach leave to be done for unsettled deliveries (part 2, 2.6.13), where it answered a link that
-    /// the peer asked for. None where it waits for the peer's Attach.
-    pub exchange: Option<AttachExchange>,
-    /// The deliveries that a sending link gives up then, in the order in which their transfers go; none of a receiving
-    /// link, or where it waits. To send them is left to the caller.
-    pub aborts: Array<Abort>,
+    /// What is told of it at once: where it answered a link that the peer asked for, that it is attached, and what
+    /// comes of that; nothing where it waits for the peer's Attach.
+    pub events: Vec<Event>,
 }

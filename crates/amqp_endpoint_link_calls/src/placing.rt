@@ -1,26 +1,42 @@
 //! How a link attaches in its session (part 2, 2.6.3).
-ghost use Rattle.std.specs.Prelude.{◌≡◌, ℕ, None, Some, true, IfErr, IfOk, IsSome, OnErr};
+ghost use Rattle.std.specs.Prelude.{◌≡◌, ◌<◌, ◌≤◌, ◌+◌, ◌^◌, ◌++◌, ℕ, All, List, None, Some, true, IfErr, IfOk, IsSome};
+ghost use Rattle.std.specs.Prelude.{OnErr};
+ghost use Rattle.std.specs.Prelude.{OnOk};
 ghost use Rattle.std.specs.FinMap as map;
+ghost use Rattle.std.specs.Vec.{vec_capacity, vec_len};
+ghost use Rattle.std.specs.VecDeque.{deque_capacity, deque_len};
 ghost use Rattle.amqp_link.specs.Ends.{state_of};
+ghost use Rattle.amqp_link_unsettled.specs.declared.exchanging.Abort.{Abort};
 ghost use Rattle.amqp_endpoint_attached.specs.Answering.{RefusesAnswer};
 ghost use Rattle.amqp_endpoint_attached.specs.Attaching.{RefusesAttach};
+ghost use Rattle.amqp_endpoint_attached.specs.Linked.{end_at};
 ghost use Rattle.amqp_endpoint_attached.specs.Links.{is_at_rest};
 ghost use Rattle.amqp_endpoint_conversation.specs.Ending.{IsMapped};
-ghost use Rattle.amqp_endpoint_conversation.specs.Going.{Goes, Rests, Within};
+ghost use Rattle.amqp_endpoint_conversation.specs.Going.{Goes, Rests};
+ghost use Rattle.amqp_endpoint_messages.specs.GivingUp.{DoesAttached, IsBare, attached_told};
+ghost use Rattle.amqp_endpoint_messages.specs.MadeReady.{HasPlaceToClose, HasRoomToSend, HasRoomToTell, IsMadeReady};
+ghost use Rattle.amqp_endpoint_messages.specs.MadeReady.{MadeRoom};
+ghost use Rattle.amqp_endpoint_link_calls.specs.Answering.{IsBehind};
 ghost use Rattle.amqp_endpoint_link_calls.specs.Attaching.{AttachedBy, AttachesIn, AttachesOne};
 ghost use Rattle.amqp_endpoint_link_calls.specs.Refusals.{BarsIn, RefusesOne, of_refusal};
 
 use crate::LinkTalk;
+use crate::detaching::handle_is_short;
 use crate::meeting::met;
 use crate::placed::Placed;
-use amqp_endpoint_attached::{Answered, AttachRefusal, LinkSession, Unattached, answer, attach};
+use amqp_endpoint_attached::{
+    Answered, AttachRefusal, LinkSession, Unattached, answer, attach, offered, prepare_answer,
+};
 use amqp_endpoint_fitting::frames_are_read;
-use amqp_endpoint_model::EndpointError;
-use amqp_link::LinkEnd;
+use amqp_endpoint_messages::{
+    AttachReady, Closing, go_on_attached, make_answer_ready, make_closing, make_room_to_tell,
+    open_count,
+};
+use amqp_endpoint_model::{Attached, EndpointError, Event};
+use amqp_link::{LinkEnd, PreparedAttach};
 use amqp_session_performatives::SessionFrame;
 use amqp_session_types::{InputHandle, SessionError};
-use serde_amqp_types::Array;
-use std::alloc::Global;
+use std::alloc::{AllocError, Global};
 use std::collections::VecDeque;
 
 /// A link, which is at rest, attaches in the session with this number, which has begun, and is to have that number of
@@ -41,8 +57,7 @@ pub(crate) fn attach_live(
     ensures numbered { IfOk result (λ placed. placed.link ≡ number) }
     ensures err { IfErr result (BarsIn limit talk.old session link) }
     ensures kept { OnErr result ((talk.new ≡ talk.old) × (out.new.items ≡ out.old.items)) }
-    ensures goes { Goes limit talk.old talk.new out.old.items out.new.items }
-    ensures waits { (most : ℕ) → Within most talk.old → Within most talk.new }
+    ensures goes { 512 ≤ limit → Goes limit talk.old talk.new out.old.items out.new.items }
     ensures rests { Rests talk.old talk.new out.old.items out.new.items }
 {
     let from = out.len();
@@ -66,6 +81,7 @@ fn attach_lent(
     ensures ok { IfOk result (λ placed.
         AttachesIn talk.old out.old.items limit session link placed talk.new out.new.items) }
     ensures numbered { IfOk result (λ placed. placed.link ≡ number) }
+    ensures short { IfOk result (λ placed. placed.handle.0 < 2 ^ 32) }
     ensures err { IfErr result (BarsIn limit talk.old session link) }
     ensures kept { OnErr result ((talk.new ≡ talk.old) × (out.new.items ≡ out.old.items)) }
 {
@@ -92,6 +108,7 @@ fn attach_in(
     ensures ok { IfOk result (λ placed.
         AttachesOne live.old out.old.items limit link placed live.new out.new.items) }
     ensures placed { IfOk result (λ placed. (placed.session ≡ session) × (placed.link ≡ number)) }
+    ensures short { IfOk result (λ placed. placed.handle.0 < 2 ^ 32) }
     ensures err { IfErr result (RefusesOne limit live.old link) }
     ensures kept { OnErr result ((live.new ≡ live.old) × (out.new.items ≡ out.old.items)) }
 {
@@ -101,7 +118,7 @@ fn attach_in(
     }
 }
 
-/// It answers the one that the peer asks for with this handle.
+/// It answers the one that the peer asks for with this handle. All that this takes is made ready before it changes.
 fn answer_asked(
     live: &mut LinkSession,
     alloc: Global,
@@ -114,15 +131,103 @@ fn answer_asked(
 ) -> Result<Placed, AttachRefusal>
     requires asked { IsSome (map.get live.old.asked input.0) }
     requires at_rest { is_at_rest (state_of link) ≡ true }
-    ensures ok { IfOk result (λ placed. AttachedBy (Some input) placed.exchange live.old out.old.items limit link
-        placed live.new out.new.items) }
+    ensures ok { IfOk result (λ placed. AttachedBy (Some input) live.old out.old.items limit link placed live.new
+        out.new.items) }
     ensures placed { IfOk result (λ placed. (placed.session ≡ session) × (placed.link ≡ number)) }
+    ensures short { IfOk result (λ placed. placed.handle.0 < 2 ^ 32) }
     ensures err { IfErr result (RefusesAnswer limit live.old link input) }
     ensures kept { OnErr result ((live.new ≡ live.old) × (out.new.items ≡ out.old.items)) }
 {
-    match answer(live, alloc, limit, number, link, input, out) {
-        Ok(answered) => Ok(placed_by(answered, session, number)),
-        Err(refused) => Err(refusal_in(refused)),
+    let prepared = prepare_answer(live, alloc, limit, &link, input)?;
+    let handle = offered(&live.session)?;
+    handle_is_short(handle);
+    let closing = make_closing(live, alloc, session, handle, open_count(&link))?;
+    let room = live.session.transfers_room();
+    let behind = make_behind(live, alloc, limit, closing, &prepared.taken, out)?;
+    match answer(live, alloc, number, link, input, prepared, out) {
+        Ok(answered) => Ok(go_on(live, alloc, number, answered, behind, out)),
+        Err(refused) => {
+            live.session.lower_transfers(room);
+            Err(refusal_in(refused))
+        }
+    }
+}
+
+/// What is left to be done behind the Attach of a link that answers an asked one, made ready before it does.
+#[derive(Drop)]
+struct Behind {
+    /// What its Attach leaves to be done.
+    ready: AttachReady,
+    /// No event yet, with room for all that are told.
+    events: Vec<Event>,
+}
+
+/// What a link leaves to be done for which this is to be taken of the peer's Attach, with what it is closed with, and
+/// room for all of it, and for its own Attach before that. Of the session nothing changes but the room for transfers.
+fn make_behind(
+    live: &mut LinkSession,
+    alloc: Global,
+    limit: u32,
+    closing: Closing,
+    taken: &PreparedAttach,
+    out: &mut VecDeque<SessionFrame>,
+) -> Result<Behind, AllocError>
+    requires { HasPlaceToClose live.old closing }
+    ensures ready { IfOk result (λ behind. IsBehind limit live.new closing taken.now behind (deque_len out.new + 1)
+        (deque_capacity out.new)) }
+    ensures made { OnOk result (MadeRoom live.old live.new) }
+    ensures kept { OnErr result (live.new ≡ live.old) }
+    ensures out { out.new.items ≡ out.old.items }
+{
+    let mut events = Vec::new(alloc);
+    make_room_to_tell(&mut events, closing.count)?;
+    match make_answer_ready(live, alloc, limit, closing, taken, out) {
+        Ok(ready) => Ok(Behind { ready, events }),
+        Err(error) => Err(error),
+    }
+}
+
+/// A link that answered an asked one goes on under this number: it is told that it is attached, and what its Attach
+/// leaves to be done is done, as it was made ready.
+fn go_on(
+    live: &mut LinkSession,
+    alloc: Global,
+    number: u64,
+    answered: Answered,
+    behind: Behind,
+    out: &mut VecDeque<SessionFrame>,
+) -> Placed
+    requires there { IsSome (end_at live.old behind.ready.closing.handle) }
+    requires sends { HasRoomToSend behind.ready live.old (deque_len out.old) (deque_capacity out.old) }
+    requires tells { HasRoomToTell behind.ready.closing.count (vec_len behind.events + 1) (vec_capacity behind.events) }
+    requires bare { All IsBare behind.ready.giving.batches.items }
+    ensures placed { (result.link ≡ number) × (result.session ≡ behind.ready.closing.session)
+        × (result.handle ≡ answered.handle) }
+    ensures does { (limit : ℕ) (aborts : List Abort) →
+        IsMadeReady limit behind.ready.closing.handle aborts behind.ready.giving →
+        DoesAttached limit behind.ready.closing.session behind.ready.closing.count behind.ready.closing.handle
+        behind.ready.closing.why aborts answered.kept live.old out.old.items
+        (behind.events.items ++ attached_told number answered.exchange) live.new out.new.items result.events.items }
+{
+    let Answered {
+        handle,
+        exchange,
+        aborts: _,
+        kept,
+    } = answered;
+    let Behind { ready, events } = behind;
+    let session = ready.closing.session;
+    let mut events = events;
+    events.push_reserved(Event::Attached(Attached {
+        link: number,
+        exchange,
+    }));
+    go_on_attached(live, alloc, ready, kept, out, &mut events);
+    Placed {
+        link: number,
+        session,
+        handle,
+        events,
     }
 }
 
@@ -132,30 +237,6 @@ fn refusal_in(refused: Unattached) -> AttachRefusal
 {
     let Unattached { refusal, link: _ } = refused;
     refusal
-}
-
-/// What is told of it.
-fn placed_by(answered: Answered, session: u64, number: u64) -> Placed
-    ensures { result ≡ record {
-      link = number;
-      session = session;
-      handle = answered.handle;
-      exchange = Some answered.exchange;
-      aborts = answered.aborts;
-    } }
-{
-    let Answered {
-        handle,
-        exchange,
-        aborts,
-    } = answered;
-    Placed {
-        link: number,
-        session,
-        handle,
-        exchange: Some(exchange),
-        aborts,
-    }
 }
 
 /// It attaches of itself, and waits for the peer's Attach.
@@ -169,20 +250,23 @@ fn attach_own(
     out: &mut VecDeque<SessionFrame>,
 ) -> Result<Placed, AttachRefusal>
     requires at_rest { is_at_rest (state_of link) ≡ true }
-    ensures ok { IfOk result (λ placed. AttachedBy None placed.exchange live.old out.old.items limit link placed
-        live.new out.new.items) }
+    ensures ok { IfOk result (λ placed. AttachedBy None live.old out.old.items limit link placed live.new
+        out.new.items) }
     ensures placed { IfOk result (λ placed. (placed.session ≡ session) × (placed.link ≡ number)) }
+    ensures short { IfOk result (λ placed. placed.handle.0 < 2 ^ 32) }
     ensures err { IfErr result (RefusesAttach limit live.old.session link) }
     ensures kept { OnErr result ((live.new ≡ live.old) × (out.new.items ≡ out.old.items)) }
 {
     match attach(live, alloc, limit, number, link, out) {
-        Ok(handle) => Ok(Placed {
-            link: number,
-            session,
-            handle,
-            exchange: None,
-            aborts: Array::new(alloc),
-        }),
+        Ok(handle) => {
+            handle_is_short(handle);
+            Ok(Placed {
+                link: number,
+                session,
+                handle,
+                events: Vec::new(alloc),
+            })
+        }
         Err(refused) => Err(refusal_in(refused)),
     }
 }

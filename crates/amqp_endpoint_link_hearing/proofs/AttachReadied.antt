@@ -1,7 +1,7 @@
 -- What is made ready for the link that waits for the peer's Attach, and what is done with it.
-use Rattle.std.proofs.Common.{◌≡◌, ◌≤◌, inr, ℕ, true, List, [], ◌++◌, Option, Some, None, Result, Ok, Err}
-use Rattle.std.proofs.Common.{◌+◌, refl, sym, ap, subst, ◌∙◌, append_assoc, arith, length, drop}
-use Rattle.std.specs.Prelude.{◌<◌, ◌^◌, All}
+use Rattle.std.proofs.Common.{◌≡◌, ◌≤◌, inl, inr, ℕ, Bool, true, false, List, [], ◌++◌, Option, Some, None, Result, Ok}
+use Rattle.std.proofs.Common.{Err, refl, sym, ap, subst, ◌∙◌, append_assoc, arith, length, drop}
+use Rattle.std.specs.Prelude.{◌<◌, ◌^◌, All, IsSome}
 use Rattle.std.specs.Box.{with_value}
 use Rattle.std.proofs.lemmas.Option.{none-some, same_Some}
 use Rattle.amqp_session_types.specs.declared.channels.IncomingChannel.{IncomingChannel}
@@ -9,16 +9,14 @@ use Rattle.amqp_session_types.specs.declared.error.Error.{Error}
 use Rattle.amqp_session_types.specs.declared.handles.OutputHandle.{OutputHandle}
 use Rattle.amqp_session_performatives.specs.declared.attach.Attach.{Attach}
 use Rattle.amqp_session_performatives.specs.declared.session_frame.SessionFrame.{SessionFrame}
-use Rattle.amqp_session_outgoing.specs.Queues.{room_behind}
 use Rattle.amqp_link.specs.declared.end.End.{End}
 use Rattle.amqp_link.specs.declared.relay.AttachTold.{AttachTold}
 use Rattle.amqp_link_sender.specs.declared.attaching.Attaching.{Attaching}
 use Rattle.amqp_link_types.specs.declared.link_error.LinkError.{LinkError}
 use Rattle.amqp_link_unsettled.specs.declared.exchanging.Abort.{Abort}
-use Rattle.amqp_endpoint_fitting.proofs.Frames.{larger_fits}
 use Rattle.amqp_endpoint_fitting.specs.Read.{IsRead}
 use Rattle.amqp_endpoint_links.specs.declared.asking.NamedLink.{NamedLink}
-use Rattle.amqp_endpoint_links.specs.declared.asking.NamedLink.TheVariants.{Waiting}
+use Rattle.amqp_endpoint_links.specs.declared.asking.NamedLink.TheVariants.{Absent, Attached, Waiting}
 use Rattle.amqp_endpoint_model.specs.declared.error.EndpointError.TheVariants.{Link as LinkFault}
 use Rattle.amqp_endpoint_model.specs.declared.event.Event.{Event}
 use Rattle.amqp_endpoint_model.specs.State.{error_of, fits, frame_of}
@@ -29,102 +27,250 @@ use Rattle.amqp_endpoint_attached.specs.Detaching.{own_detach}
 use Rattle.amqp_endpoint_attached.specs.Linked.{Linked, LinksIn, end_at, end_in}
 use Rattle.amqp_endpoint_messages.specs.All.{open_count}
 use Rattle.amqp_endpoint_messages.specs.GivingUp.{AttachedAt, ClosedFor, DoesAttached, DoesClosedFor, IsBare}
-use Rattle.amqp_endpoint_messages.specs.GivingUp.{planned_at}
-use Rattle.amqp_endpoint_messages.specs.MadeReady.{HasRoomToSend, HasRoomToTell, IsMadeReady, IsReadyFor, MadeRoom}
+use Rattle.amqp_endpoint_messages.specs.GivingUp.{attached_told, planned_at}
+use Rattle.amqp_endpoint_messages.specs.MadeReady.{HasPlaceToClose, HasRoomToSend, IsClosing, IsMadeReady, IsReadyWith}
+use Rattle.amqp_endpoint_messages.specs.MadeReady.{MadeRoom}
 use Rattle.amqp_endpoint_messages.specs.declared.giving_up.AttachReady.{AttachReady}
+use Rattle.amqp_endpoint_messages.specs.declared.giving_up.Closing.{Closing}
+use Rattle.amqp_endpoint_messages.proofs.AttachDone.{Stepped, attached-at, closed-for, not-allowed-fits}
 use Rattle.amqp_endpoint_linking.specs.Linking.{Session, Talk}
 use Rattle.amqp_endpoint_linking.specs.Handed.{Hands, Tells}
-use Rattle.amqp_endpoint_link_hearing.specs.Attaching.{ByLink, IsAttached, LinkTakes, MakesRoom, attached_told}
+use Rattle.amqp_endpoint_link_hearing.specs.Attaching.{ByLink, IsAttached, LinkTakes, MakesRoom}
 use Rattle.amqp_endpoint_link_hearing.specs.Attaching.{outcome_of}
 use Rattle.amqp_endpoint_link_hearing.specs.InSession.{GoesOn}
 use Rattle.amqp_endpoint_link_hearing.specs.Leaving.{detach_frame}
-use Rattle.amqp_endpoint_link_hearing.specs.Readied.{IsReady, Readies, ReadyFor}
-use Rattle.amqp_endpoint_link_hearing.specs.declared.closing.Condition.TheVariants as condition
-use Rattle.amqp_endpoint_link_hearing.proofs.AttachDone.{Stepped, attached-at, closed-for}
-use Rattle.amqp_endpoint_link_hearing.proofs.Doing.{closing-placed, done-goes, done-rests}
+use Rattle.amqp_endpoint_link_hearing.specs.Naming.{link_in, link_of}
+use Rattle.amqp_endpoint_link_hearing.specs.Readied.{ClosesIn, ClosesOn, HasItsPlace, HasPlaceIn, IsReady, NoneWaits}
+use Rattle.amqp_endpoint_link_hearing.specs.Readied.{Readies, ReadyFor, ServesItsOwn, WaitsOn, count_in}
+use Rattle.amqp_endpoint_link_hearing.proofs.Doing.{done-goes, done-rests}
 use Rattle.amqp_endpoint_link_hearing.proofs.Lending.{lives}
 use Rattle.amqp_endpoint_link_hearing.proofs.Reached.{reached-alike}
 use Rattle.amqp_endpoint_link_hearing.proofs.Lent.{behind-talk}
 use Rattle.amqp_endpoint_link_hearing.proofs.Takes.{IsNumbered}
 
--- where the channel reaches no session that has begun there is none to make it ready in
-module _ (limit : ℕ) (talk : Talk) (channel : IncomingChannel) (handle : OutputHandle) (it : Attach)
-    (len capacity events room : ℕ) where
-  pub unreached : None ≡ reached talk.sessions channel.0
-      → Readies limit talk channel (Waiting handle) it len capacity events room None
-  unreached none n t r l = absurd (none-some _ (none ∙ r))
+-- whether a link waits for it
+abbrev waits : NamedLink → Bool
+waits Absent = false
+waits Attached = false
+waits (Waiting handle) = true
+
+-- where none does nothing is made ready
+pub unwaited : (talk : Talk) (channel : IncomingChannel) (named other : NamedLink) → named ≡ other
+    → waits other ≡ false → NoneWaits talk channel named
+unwaited talk channel named other is not handle number s waiting reaches live =
+    let clash : true ≡ false = ap (λ (n : NamedLink). waits n) (sym waiting ∙ is) ∙ not in absurd cc
+
+-- and none where the channel reaches no session that has begun
+module _ (talk : Talk) (channel : IncomingChannel) (named : NamedLink) where
+  pub unreached : None ≡ reached talk.sessions channel.0 → NoneWaits talk channel named
+  unreached none handle number s waiting reaches live = absurd (none-some _ (none ∙ reaches))
 
   pub unlived : (number : ℕ) → Some number ≡ reached talk.sessions channel.0 → None ≡ live_at talk.sessions number
-      → Readies limit talk channel (Waiting handle) it len capacity events room None
-  unlived number reaches none n t r l =
-      let same : n ≡ number = same_Some _ _ (sym r ∙ sym reaches) in
-      absurd (none-some _ (none ∙ subst (λ (k : ℕ). live_at talk.sessions k ≡ Some t) same l))
+      → NoneWaits talk channel named
+  unlived number is none handle n s waiting reaches live =
+      let same : n ≡ number = same_Some _ _ (sym reaches ∙ sym is) in
+      absurd (none-some _ (none ∙ subst (λ (k : ℕ). live_at talk.sessions k ≡ Some s) same live))
 
--- and none where no link waits for it
-module _ (limit : ℕ) (talk : Talk) (channel : IncomingChannel) (named other : NamedLink) (it : Attach)
-    (len capacity events room : ℕ) (is : named ≡ other) where
-  pub none-readied : ((s : Linked) → ReadyFor limit s other it len capacity events room None)
-      → Readies limit talk channel named it len capacity events room None
-  none-readied none n t r l =
-      subst (λ (k : NamedLink). ReadyFor limit t.value k it len capacity events room None) (sym is) (none t.value)
+  -- where one waits this is what it is closed with
+  pub closes-on : (number : ℕ) (lent : Session) (handle : OutputHandle) (closing : Closing)
+      → named ≡ Waiting handle → Some number ≡ reached talk.sessions channel.0
+      → Some lent ≡ live_at talk.sessions number
+      → IsClosing lent.value number handle (open_count (end_at lent.value handle)) closing
+      → WaitsOn talk channel named closing
+  closes-on number lent handle closing waiting reaches live is =
+      let under : closing.handle ≡ handle = ap (λ (c : Closing). c.handle) is.is in
+      let held : closing.session ≡ number = ap (λ (c : Closing). c.session) is.is in
+      let made : ℕ → OutputHandle → Closing = λ n h.
+      record {
+        session = n;
+        handle = h;
+        count = open_count (end_at lent.value h);
+        why = error_of not_allowed;
+        place = closing.place;
+      } in
+      record {
+        waits = waiting ∙ ap (λ (h : OutputHandle). Waiting h) (sym under);
+        reaches = sym reaches ∙ ap (λ (n : ℕ). Some n) (sym held);
+        session = lent;
+        live = ap (λ (n : ℕ). live_at talk.sessions n) held ∙ sym live;
+        is =
+            record {
+              is =
+                  is.is
+                  ∙ ap (λ (n : ℕ). made n handle) (sym held)
+                  ∙ ap (λ (h : OutputHandle). made closing.session h) (sym under);
+              place = is.place;
+            };
+      }
 
-  pub none-made : MakesRoom other talk channel talk → MakesRoom named talk channel talk
-  none-made made = subst (λ (k : NamedLink). MakesRoom k talk channel talk) (sym is) made
+  -- so there is a place for its Detach
+  pub placed-on : (closing : Option Closing) → ClosesOn talk channel named closing → HasItsPlace talk closing
+  placed-on None none = tt
+  placed-on (Some closing) w = record { session = w.session; live = w.live; place = (w.is).place }
 
--- the links stay as room is made
-made-ready : (limit : ℕ) (before after : Linked) (handle : OutputHandle) (it : Attach) (ready : AttachReady)
-    → IsReadyFor limit before handle it ready → MadeRoom before after → IsReadyFor limit after handle it ready
-made-ready limit before after handle it ready r m =
-    let same : end_at before handle ≡ end_at after handle =
-    sym (ap (λ (s : LinksIn). end_in s handle) (m.made).reserves.1) in
-    record {
-      giving = subst (λ (o : Option End). IsMadeReady limit handle (planned_at o it) ready.giving) same r.giving;
-      count = r.count ∙ ap (λ (o : Option End). open_count o) same;
-      why = r.why;
-    }
+-- where none waits nothing is made ready
+readies-none : (limit : ℕ) (s : Linked) (number : ℕ) (named : NamedLink) (it : Attach) (len capacity : ℕ)
+    → ((handle : OutputHandle) → named ≡ Waiting handle → ⊥) → ReadyFor limit s number named it len capacity None
+readies-none limit s number Absent it len capacity none = tt
+readies-none limit s number Attached it len capacity none = tt
+readies-none limit s number (Waiting handle) it len capacity none = none handle refl
+
+pub none-readied : (limit : ℕ) (talk : Talk) (channel : IncomingChannel) (named : NamedLink) (it : Attach)
+    (len capacity : ℕ) → NoneWaits talk channel named → Readies limit talk channel named it len capacity None
+none-readied limit talk channel named it len capacity none n s r l =
+    readies-none limit s.value n named it len capacity (λ handle waiting. none handle n s waiting r l)
+
+made-same : (named : NamedLink) (talk : Talk) (channel : IncomingChannel) → MakesRoom named talk channel talk
+made-same Absent talk channel = refl
+made-same Attached talk channel = refl
+made-same (Waiting handle) talk channel = inl refl
+
+-- whichever was found to be made ready
+module _ (talk : Talk) (channel : IncomingChannel) (named : NamedLink) (closing : Option Closing)
+    (closes : ClosesOn talk channel named closing) where
+  pub none-made : closing ≡ None → MakesRoom named talk channel talk
+  none-made none = made-same named talk channel
+
+  pub unready-none : (limit : ℕ) (it : Attach) (len capacity : ℕ) → closing ≡ None
+      → Readies limit talk channel named it len capacity None
+  unready-none limit it len capacity none =
+      none-readied limit talk channel named it len capacity
+      (subst (λ (o : Option Closing). ClosesOn talk channel named o) none closes)
+
+-- the session in which the link waits is lent, with a place for its Detach
+module _ (talk : Talk) (closing : Option Closing) (place : HasItsPlace talk closing) (with : Closing)
+    (some : closing ≡ Some with) where
+  placed-in : HasPlaceIn talk with
+  placed-in = subst (λ (o : Option Closing). HasItsPlace talk o) some place
+
+  pub none-lives : None ≡ live_at talk.sessions with.session → ⊥
+  none-lives none = none-some _ (none ∙ placed-in.live)
+
+  pub place-lent : (lent : Session) (before : Linked) → Some lent ≡ live_at talk.sessions with.session
+      → before ≡ lent.value → HasPlaceToClose before with
+  place-lent lent before live same =
+      let is : placed-in.session ≡ lent = same_Some _ _ (sym placed-in.live ∙ sym live) in
+      subst (λ (s : Linked). HasPlaceToClose s with) (ap (λ (s : Session). s.value) is ∙ sym same) placed-in.place
 
 -- it is made ready in the session that the channel reaches
-module _ (limit : ℕ) (old : Talk) (channel : IncomingChannel) (handle : OutputHandle) (it : Attach)
-    (len capacity events room number : ℕ) (lent : Session) (before after : Linked) (ready : AttachReady)
-    (reaches : Some number ≡ reached old.sessions channel.0) (live : Some lent ≡ live_at old.sessions number)
-    (same : before ≡ lent.value) (made : MadeRoom before after) where
-  abbrev Behind : Talk
-  Behind = behind-talk old number lent after
+module _ (limit : ℕ) (old : Talk) (channel : IncomingChannel) (named : NamedLink) (it : Attach) (len capacity : ℕ)
+    (closing : Option Closing) (closes : ClosesOn old channel named closing) (with : Closing)
+    (some : closing ≡ Some with) (lent : Session) (before after : Linked)
+    (live : Some lent ≡ live_at old.sessions with.session) (same : before ≡ lent.value) (made : MadeRoom before after)
+  where
+    abbrev Behind : Talk
+    Behind = behind-talk old with.session lent after
 
-  pub readied : IsReadyFor limit before handle it ready → HasRoomToSend handle ready after len capacity
-      → HasRoomToTell ready.count (events + 1) room → All IsBare ready.giving.batches.items
-      → Readies limit Behind channel (Waiting handle) it len capacity events room (Some ready)
-  readied is sends tells bare n t r l =
-      let still : reached Behind.sessions channel.0 ≡ reached old.sessions channel.0 =
-      reached-alike number lent (with_value lent after) old.sessions Behind.sessions (sym live, refl) channel.0 in
-      let this : n ≡ number = same_Some _ _ (sym r ∙ still ∙ sym reaches) in
-      let here : live_at Behind.sessions number ≡ Some t =
-      subst (λ (k : ℕ). live_at Behind.sessions k ≡ Some t) this l in
-      let stands : live_at Behind.sessions number ≡ Some (with_value lent after) =
-      lives old.sessions number (with_value lent after) lent (sym live) in
-      let so : t ≡ with_value lent after = same_Some _ _ (sym here ∙ stands) in
-      subst (λ (a : Session). IsReady limit a.value handle it len capacity events room ready) (sym so)
-      (record {
-        is = made-ready limit before after handle it ready is made;
-        sends = sends;
-        tells = tells;
-        bare = bare;
-      })
+    waits-on : WaitsOn old channel named with
+    waits-on = subst (λ (o : Option Closing). ClosesOn old channel named o) some closes
 
-  pub room-made : MakesRoom (Waiting handle) old channel Behind
-  room-made =
-      inr (record {
-        number = number;
-        reaches = sym reaches;
-        made =
-            record {
-              before = lent;
-              after = with_value lent after;
-              done = subst (λ (s : Linked). MadeRoom s after) same made;
-              stepped = (sym live, refl);
-              rest = refl;
-            };
-      })
+    -- the links stay as room is made
+    alike : (handle : OutputHandle) → end_at before handle ≡ end_at after handle
+    alike handle = sym (ap (λ (s : LinksIn). end_in s handle) (made.made).reserves.1)
+
+    lent-is : waits-on.session ≡ lent
+    lent-is = same_Some _ _ (sym waits-on.live ∙ sym live)
+
+    opened : end_at (waits-on.session).value with.handle ≡ end_at after with.handle
+    opened =
+        ap (λ (s : Session). end_at s.value with.handle) lent-is
+        ∙ ap (λ (s : Linked). end_at s with.handle) (sym same)
+        ∙ alike with.handle
+
+    abbrev with_these : ℕ → ℕ → ℕ → Closing
+    with_these number count place =
+        record {
+          session = number;
+          handle = with.handle;
+          count = count;
+          why = error_of not_allowed;
+          place = place;
+        }
+
+    pub readied : (ready : AttachReady)
+        → IsReadyWith limit (planned_at (end_at before with.handle) it) with ready
+        → HasRoomToSend ready after len capacity → All IsBare ready.giving.batches.items
+        → Readies limit Behind channel named it len capacity (Some ready)
+    readied ready is sends bare n t r l =
+        let still : reached Behind.sessions channel.0 ≡ reached old.sessions channel.0 =
+        reached-alike with.session lent (with_value lent after) old.sessions Behind.sessions (sym live, refl) channel.0
+        in
+        let this : n ≡ with.session = same_Some _ _ (sym r ∙ still ∙ waits-on.reaches) in
+        let here : live_at Behind.sessions with.session ≡ Some t =
+        subst (λ (k : ℕ). live_at Behind.sessions k ≡ Some t) this l in
+        let stands : live_at Behind.sessions with.session ≡ Some (with_value lent after) =
+        lives old.sessions with.session (with_value lent after) lent (sym live) in
+        let so : t ≡ with_value lent after = same_Some _ _ (sym here ∙ stands) in
+        let there : IsReady limit after n with.handle it len capacity ready =
+        record {
+          closing =
+              record {
+                is =
+                    is.closing
+                    ∙ (waits-on.is).is
+                    ∙ ap (λ (k : ℕ). with_these k (open_count (end_at (waits-on.session).value with.handle)) with.place)
+                    (sym this)
+                    ∙ ap (λ (o : Option End). with_these n (open_count o) with.place) opened
+                    ∙ ap (λ (c : Closing). with_these n (open_count (end_at after with.handle)) c.place)
+                    (sym is.closing);
+                place = sends.place;
+              };
+          giving =
+              subst (λ (o : Option End). IsMadeReady limit with.handle (planned_at o it) ready.giving)
+              (alike with.handle) is.giving;
+          sends = sends;
+          bare = bare;
+        } in
+        subst (λ (a : Session). ReadyFor limit a.value n named it len capacity (Some ready)) (sym so)
+        (subst (λ (k : NamedLink). ReadyFor limit after n k it len capacity (Some ready)) (sym waits-on.waits) there)
+
+    pub room-made : MakesRoom named old channel Behind
+    room-made =
+        let one : MakesRoom (Waiting with.handle) old channel Behind =
+        inr (record {
+          number = with.session;
+          reaches = waits-on.reaches;
+          made =
+              record {
+                before = lent;
+                after = with_value lent after;
+                done = subst (λ (s : Linked). MadeRoom s after) same made;
+                stepped = (sym live, refl);
+                rest = refl;
+              };
+        }) in
+        subst (λ (k : NamedLink). MakesRoom k old channel Behind) (sym waits-on.waits) one
+
+-- as many messages are open as were counted
+pub counted : (with : Closing) (closing : Option Closing) → closing ≡ Some with → (ready : AttachReady)
+    → ready.closing ≡ with → ready.closing.count ≡ count_in closing
+counted with closing some ready is =
+    ap (λ (c : Closing). c.count) is ∙ ap (λ (o : Option Closing). count_in o) (sym some)
+
+-- a session that has a link has begun
+live-there : (talk : Talk) (session : ℕ) (handle : OutputHandle) → IsSome (link_of talk session handle)
+    → (s : Session) × (live_at talk.sessions session ≡ Some s)
+live-there talk session handle there = by (live_at talk.sessions session) refl there
+  where
+    by : (o : Option Session) → live_at talk.sessions session ≡ o → IsSome (link_in o handle)
+        → (s : Session) × (live_at talk.sessions session ≡ Some s)
+    by None is there = absurd cc
+    by (Some s) is there = (s, is)
+
+-- what was made ready serves where the link is closed
+pub closes-in : (talk : Talk) (len capacity : ℕ) (ready : AttachReady) → ServesItsOwn talk len capacity ready
+    → ClosesIn talk len capacity ready.closing
+closes-in talk len capacity ready serves =
+    record {
+      there = serves.there;
+      place = λ s live. (serves.sends s live).place;
+      spare =
+          let s : Session = (live-there talk ready.closing.session ready.closing.handle serves.there).0 in
+          let live : live_at talk.sessions ready.closing.session ≡ Some s =
+          (live-there talk ready.closing.session ready.closing.handle serves.there).1 in
+          let room = serves.sends s live in omega (arith, room.spare);
+      why = serves.why;
+    }
 
 -- what is done in a session that is lent, and tells
 module _ (Does : List SessionFrame → List Event → Linked → Linked → Type 0) (old : Talk) (session : ℕ) (lent : Session)
@@ -165,7 +311,8 @@ module _ (limit session count : ℕ) (handle : OutputHandle) (aborts : List Abor
   abbrev AttachedSo : Type 0
   AttachedSo =
       Tells (λ (frames : List SessionFrame) (events : List Event).
-      GoesOn (AttachedAt limit session count handle why aborts frames events) old session new) out told out_new told_new
+      GoesOn (AttachedAt limit session count handle why aborts None frames events) old session new) out told out_new
+      told_new
 
   pub attached-goes : (from : ℕ) → (t : AttachedSo) → ((s : Linked) → FitsIn s) → from ≡ length out
       → All IsRead (drop from out_new) → Goes limit old new out out_new
@@ -173,17 +320,18 @@ module _ (limit session count : ℕ) (handle : OutputHandle) (aborts : List Abor
       let before : Linked = ((t.is_so).before).value in
       let after : Linked = ((t.is_so).after).value in
       let Does : List SessionFrame → Linked → Linked → Type 0 = λ frames.
-      AttachedAt limit session count handle why aborts frames t.events in
+      AttachedAt limit session count handle why aborts None frames t.events in
       let h : Hands (λ (frames : List SessionFrame). GoesOn (Does frames) old session new) out out_new =
       record { frames = t.frames; is_so = t.is_so; queued = t.queued } in
       let s : Stepped limit before t.frames after =
-      attached-at limit session count handle why aborts t.frames t.events before after (fit before) (t.is_so).done in
+      attached-at limit session count handle why aborts None t.frames t.events before after (fit before) (t.is_so).done
+      in
       done-goes Does old session new out out_new h limit from is reads s.done
 
   pub attached-rests : AttachedSo → Rests old new out out_new
   attached-rests t =
       let Does : List SessionFrame → Linked → Linked → Type 0 = λ frames.
-      AttachedAt limit session count handle why aborts frames t.events in
+      AttachedAt limit session count handle why aborts None frames t.events in
       done-rests Does old session new out out_new
       (record { frames = t.frames; is_so = t.is_so; queued = t.queued })
 
@@ -219,24 +367,21 @@ module _ (limit session count : ℕ) (handle : OutputHandle) (aborts : List Abor
 pub closing-fits : (limit : ℕ) (handle : OutputHandle) → handle.0 < 2 ^ 32 → 512 ≤ limit → (s : Linked)
     → fits limit
     (frame_of (detach_frame s.session.fields.channel (own_detach handle true (Some (error_of not_allowed))))) ≡ true
-closing-fits limit handle small least s =
-    larger_fits limit
-    (frame_of (detach_frame s.session.fields.channel (own_detach handle true (Some (error_of not_allowed))))) least
-    (closing-placed s handle condition.NotAllowed not_allowed (room_behind handle.0 1 s.session.outgoing.queues) refl
-    small (omega arith)).fit
+closing-fits limit handle small least s = not-allowed-fits limit s handle small least
 
 -- it is done in a session that is lent
 module _ (session count : ℕ) (handle : OutputHandle) (says : Error) (is : says ≡ error_of not_allowed) (old : Talk)
     (lent : Session) (live : Some lent ≡ live_at old.sessions session) (before after : Linked)
     (same : before ≡ lent.value) (out out_new : List SessionFrame) (told told_new : List Event) where
   pub attached-on : (limit : ℕ) (aborts : List Abort)
-      → DoesAttached limit session count handle says aborts before out told after out_new told_new
+      → DoesAttached limit session count handle says aborts None before out told after out_new told_new
       → AttachedSo limit session count handle aborts old (behind-talk old session lent after) out out_new told told_new
   attached-on limit aborts d =
       let Does : List SessionFrame → List Event → Linked → Linked → Type 0 = λ frames events.
-      AttachedAt limit session count handle (error_of not_allowed) aborts frames events in
+      AttachedAt limit session count handle (error_of not_allowed) aborts None frames events in
       tells-on Does old session lent live before after same out out_new told told_new d.frames d.events
-      (subst (λ (w : Error). AttachedAt limit session count handle w aborts d.frames d.events before after) is d.does)
+      (subst (λ (w : Error). AttachedAt limit session count handle w aborts None d.frames d.events before after) is
+      d.does)
       d.queued d.are_told
 
   pub closed-on : (error : LinkError)
@@ -262,7 +407,8 @@ module _ (limit count : ℕ) (old : Talk) (session : ℕ) (handle : OutputHandle
   pub link-attached : (attaching : Attaching) → Ok attaching ≡ outcome_of answer
       → mid ≡ events ++ attached_told number attaching.exchange
       → Tells (λ (frames : List SessionFrame) (told : List Event).
-      GoesOn (AttachedAt limit session count handle (error_of not_allowed) attaching.aborts frames told) old session
+      GoesOn (AttachedAt limit session count handle (error_of not_allowed) attaching.aborts None frames told) old
+      session
       new)
       out mid out_new events_new → Takes
   link-attached attaching is are t =

@@ -44,13 +44,15 @@ use Rattle.amqp_endpoint_attached.specs.Linked.{Linked, end_at, gives}
 use Rattle.amqp_endpoint_messages.specs.GivingUp.{given_up_by, planned_at}
 use Rattle.amqp_endpoint_messages.specs.MadeReady.{HasRoomToSend, IsMadeReady}
 use Rattle.amqp_endpoint_messages.specs.declared.giving_up.AttachReady.{AttachReady}
+use Rattle.amqp_endpoint_messages.specs.declared.giving_up.Closing.{Closing}
 use Rattle.amqp_endpoint_model.specs.declared.event.Event.{Event}
 use Rattle.amqp_endpoint_linking.specs.Linking.{Link, Session, Talk}
 use Rattle.amqp_endpoint_link_hearing.specs.Attaching.{BecomesBy, of_receiver, of_sender, opened_in, opened_of}
 use Rattle.amqp_endpoint_link_hearing.specs.Attaching.{outcome_of}
 use Rattle.amqp_endpoint_link_hearing.specs.Heard.{attach_of}
 use Rattle.amqp_endpoint_link_hearing.specs.Naming.{link_in, link_of}
-use Rattle.amqp_endpoint_link_hearing.specs.Readied.{IsReady, Readies, Serves, count_of}
+use Rattle.amqp_endpoint_link_hearing.specs.Readied.{IsReady, IsToBeDone, IsToBeDoneBy, Readies, Serves, ServesFor}
+use Rattle.amqp_endpoint_link_hearing.specs.Readied.{count_of}
 use Rattle.amqp_endpoint_link_hearing.specs.Saying.{LinkHeard}
 use Rattle.amqp_endpoint_link_hearing.specs.declared.hearing.Took.{Took}
 use Rattle.amqp_endpoint_link_hearing.specs.declared.hearing.Took.TheVariants as took
@@ -125,10 +127,10 @@ given-up (Receiver r) it (told.Receiver answer) (Receiver after) attaching t out
 given-up before it answer after attaching t out = absurd t
 
 -- room that was made before serves behind the Attach
-place-serves : (old new : Linked) (handle : OutputHandle) (ready : AttachReady) (len capacity : ℕ)
-    → new.session.outgoing ≡ old.session.outgoing → HasRoomToSend handle ready old len capacity
-    → HasRoomToSend handle ready new len capacity
-place-serves old new handle ready len capacity same h =
+place-serves : (old new : Linked) (ready : AttachReady) (len capacity : ℕ)
+    → new.session.outgoing ≡ old.session.outgoing → HasRoomToSend ready old len capacity
+    → HasRoomToSend ready new len capacity
+place-serves old new ready len capacity same h =
     record {
       room =
           subst (λ (o : sending.State TransferFrame BehindFrame). length ready.giving.batches.items ≤ o.room) (sym same)
@@ -136,16 +138,21 @@ place-serves old new handle ready len capacity same h =
       spare =
           subst (λ (o : sending.State TransferFrame BehindFrame). len + (frames_in o.queues + o.room) + 1 ≤ capacity)
           (sym same) h.spare;
-      some = h.some;
       place =
-          subst (λ (o : sending.State TransferFrame BehindFrame). room_behind handle.0 1 o.queues ≤ ready.place)
-          (sym same) h.place;
+          record {
+            some = (h.place).some;
+            serves =
+                subst
+                (λ (o : sending.State TransferFrame BehindFrame).
+                room_behind ready.closing.handle.0 1 o.queues ≤ ready.closing.place)
+                (sym same) (h.place).serves;
+          };
     }
 
 -- a link that is to take it is there, and what was made ready serves
 module _ (limit : ℕ) (old : Talk) (channel : IncomingChannel) (out : List SessionFrame) (it : Attach)
     (handle : OutputHandle) (session : ℕ) (answer : AttachTold) (new : Talk) (out_new : List SessionFrame)
-    (len capacity events room : ℕ)
+    (len capacity : ℕ)
     (t : Answered gives old out channel (said.Attach it (Waiting handle))
     (Ok (Live session (taken.Attach (attach.ByLink answer)))) new out_new) where
   taken-there : IsTaken old channel out (said.Attach it (Waiting handle)) session (taken.Attach (attach.ByLink answer))
@@ -154,72 +161,107 @@ module _ (limit : ℕ) (old : Talk) (channel : IncomingChannel) (out : List Sess
       taken-in old channel out (said.Attach it (Waiting handle)) session (taken.Attach (attach.ByLink answer)) new
       out_new t
 
-  serves-by : (ready : Option AttachReady)
-      → Readies limit old channel (Waiting handle) it len capacity events room ready
-      → Serves limit new (took.ByLink session answer) (Waiting handle) len capacity events room ready
-  serves-by None p = p session taken-there.before taken-there.reaches taken-there.live
-  serves-by (Some ready) p =
-      let before : Linked = (taken-there.before).value in
-      let after : Session = (taken-there.takes).after in
-      let link : AttachedThere before after.value handle it answer =
-      attach-there old channel out it handle session answer new out_new taken-there in
-      let is : IsReady limit before handle it len capacity events room ready =
-      p session taken-there.before taken-there.reaches taken-there.live in
-      let planned : planned_at (end_at before handle) it ≡ given_up_by (attach_planned (link.before).link it) =
-      ap (λ (o : Option Link). planned_at (option_map (λ (n : Link). n.link) o) it) link.was in
-      let sends : HasRoomToSend handle ready after.value len capacity =
-      place-serves before after.value handle ready len capacity link.outgoing is.sends in
-      record {
-        there = ap is_some (is-there new session handle after link.link taken-there.stands link.there);
-        sends =
-            λ s live.
-            subst (λ (a : Session). HasRoomToSend handle ready a.value len capacity)
-            (same_Some _ _ (sym taken-there.stands ∙ live)) sends;
-        tells = is.tells;
-        bare = is.bare;
-        why = is.is.why;
-        giving =
-            λ attaching out_is.
-            subst (λ (aborts : List Abort). IsMadeReady limit handle aborts ready.giving)
-            (planned
-            ∙ given-up (link.before).link it answer (link.link).link attaching link.took.0 out_is)
-            is.is.giving;
-      }
+  link-there : AttachedThere (taken-there.before).value ((taken-there.takes).after).value handle it answer
+  link-there = attach-there old channel out it handle session answer new out_new taken-there
 
-  -- as many of its messages were open as when it was made ready
-  opened-by : (ready : Option AttachReady)
-      → Readies limit old channel (Waiting handle) it len capacity events room ready
+  module _ (ready : AttachReady) (p : Readies limit old channel (Waiting handle) it len capacity (Some ready)) where
+    ready-there : IsReady limit (taken-there.before).value session handle it len capacity ready
+    ready-there = p session taken-there.before taken-there.reaches taken-there.live
+
+    some-serves : ServesFor new session handle len capacity ready
+    some-serves =
+        let before : Linked = (taken-there.before).value in
+        let after : Session = (taken-there.takes).after in
+        let sends : HasRoomToSend ready after.value len capacity =
+        place-serves before after.value ready len capacity link-there.outgoing ready-there.sends in
+        record {
+          session = ap (λ (c : Closing). c.session) (ready-there.closing).is;
+          handle = ap (λ (c : Closing). c.handle) (ready-there.closing).is;
+          there = ap is_some (is-there new session handle after link-there.link taken-there.stands link-there.there);
+          sends =
+              λ s live.
+              subst (λ (a : Session). HasRoomToSend ready a.value len capacity)
+              (same_Some _ _ (sym taken-there.stands ∙ live)) sends;
+          bare = ready-there.bare;
+          why = ap (λ (c : Closing). c.why) (ready-there.closing).is;
+        }
+
+    -- it is what the Attach leaves to be done
+    some-to-do : IsToBeDone limit answer ready
+    some-to-do attaching out_is =
+        let before : Linked = (taken-there.before).value in
+        let planned : planned_at (end_at before handle) it ≡ given_up_by (attach_planned (link-there.before).link it) =
+        ap (λ (o : Option Link). planned_at (option_map (λ (n : Link). n.link) o) it) link-there.was in
+        subst (λ (h : OutputHandle). IsMadeReady limit h attaching.aborts ready.giving)
+        (sym (ap (λ (c : Closing). c.handle) (ready-there.closing).is))
+        (subst (λ (aborts : List Abort). IsMadeReady limit handle aborts ready.giving)
+        (planned
+        ∙ given-up (link-there.before).link it answer (link-there.link).link attaching link-there.took.0 out_is)
+        ready-there.giving)
+
+    -- as many of its messages were open as when it was made ready
+    some-opened : ready.closing.count ≡ opened_of (link_of old session handle)
+    some-opened =
+        ap (λ (c : Closing). c.count) (ready-there.closing).is
+        ∙ ap (λ (s : Option Session). opened_of (link_in s handle)) (sym taken-there.live)
+
+  serves-by : (ready : Option AttachReady) → Readies limit old channel (Waiting handle) it len capacity ready
+      → Serves new (took.ByLink session answer) (Waiting handle) len capacity ready
+  serves-by None p = p session taken-there.before taken-there.reaches taken-there.live
+  serves-by (Some ready) p = some-serves ready p
+
+  to-do-by : (ready : Option AttachReady) → Readies limit old channel (Waiting handle) it len capacity ready
+      → IsToBeDoneBy limit (took.ByLink session answer) (Waiting handle) ready
+  to-do-by None p = tt
+  to-do-by (Some ready) p = some-to-do ready p
+
+  opened-by : (ready : Option AttachReady) → Readies limit old channel (Waiting handle) it len capacity ready
       → count_of ready ≡ opened_of (link_of old session handle)
   opened-by None p = absurd (p session taken-there.before taken-there.reaches taken-there.live)
-  opened-by (Some ready) p =
-      let is : IsReady limit (taken-there.before).value handle it len capacity events room ready =
-      p session taken-there.before taken-there.reaches taken-there.live in
-      is.is.count ∙ ap (λ (s : Option Session). opened_of (link_in s handle)) (sym taken-there.live)
+  opened-by (Some ready) p = some-opened ready p
 
 -- where none waits there is none to go on with
-serves-absent : (limit : ℕ) (talk : Talk) (it : Took) (len capacity events room : ℕ) (ready : Option AttachReady)
-    → Serves limit talk it Absent len capacity events room ready
-serves-absent limit talk (took.Asked session) len capacity events room ready = tt
-serves-absent limit talk (took.ByLink session answer) len capacity events room ready = tt
-serves-absent limit talk took.Nothing len capacity events room ready = tt
+serves-absent : (talk : Talk) (it : Took) (len capacity : ℕ) (ready : Option AttachReady)
+    → Serves talk it Absent len capacity ready
+serves-absent talk (took.Asked session) len capacity ready = tt
+serves-absent talk (took.ByLink session answer) len capacity ready = tt
+serves-absent talk took.Nothing len capacity ready = tt
 
-serves-attached : (limit : ℕ) (talk : Talk) (it : Took) (len capacity events room : ℕ) (ready : Option AttachReady)
-    → Serves limit talk it Attached len capacity events room ready
-serves-attached limit talk (took.Asked session) len capacity events room ready = tt
-serves-attached limit talk (took.ByLink session answer) len capacity events room ready = tt
-serves-attached limit talk took.Nothing len capacity events room ready = tt
+serves-attached : (talk : Talk) (it : Took) (len capacity : ℕ) (ready : Option AttachReady)
+    → Serves talk it Attached len capacity ready
+serves-attached talk (took.Asked session) len capacity ready = tt
+serves-attached talk (took.ByLink session answer) len capacity ready = tt
+serves-attached talk took.Nothing len capacity ready = tt
+
+absent-to-do : (limit : ℕ) (it : Took) (ready : Option AttachReady) → IsToBeDoneBy limit it Absent ready
+absent-to-do limit (took.Asked session) ready = tt
+absent-to-do limit (took.ByLink session answer) ready = tt
+absent-to-do limit took.Nothing ready = tt
+
+attached-to-do : (limit : ℕ) (it : Took) (ready : Option AttachReady) → IsToBeDoneBy limit it Attached ready
+attached-to-do limit (took.Asked session) ready = tt
+attached-to-do limit (took.ByLink session answer) ready = tt
+attached-to-do limit took.Nothing ready = tt
 
 module _ (limit : ℕ) (old : Talk) (channel : IncomingChannel) (out : List SessionFrame) (it : Attach)
-    (len capacity events room : ℕ) (ready : Option AttachReady) (new : Talk) (out_new : List SessionFrame) where
-  serves-in : (named : NamedLink) (heard : LinkHeard)
-      → Readies limit old channel named it len capacity events room ready
+    (len capacity : ℕ) (ready : Option AttachReady) (new : Talk) (out_new : List SessionFrame) where
+  serves-in : (named : NamedLink) (heard : LinkHeard) → Readies limit old channel named it len capacity ready
       → Answered gives old out channel (said.Attach it named) (Ok heard) new out_new
-      → Serves limit new (attach_of heard) named len capacity events room ready
+      → Serves new (attach_of heard) named len capacity ready
   serves-in (Waiting handle) (Live session (taken.Attach (attach.ByLink answer))) p t =
-      serves-by limit old channel out it handle session answer new out_new len capacity events room t ready p
+      serves-by limit old channel out it handle session answer new out_new len capacity t ready p
   serves-in (Waiting handle) heard p t = tt
-  serves-in Absent heard p t = serves-absent limit new (attach_of heard) len capacity events room ready
-  serves-in Attached heard p t = serves-attached limit new (attach_of heard) len capacity events room ready
+  serves-in Absent heard p t = serves-absent new (attach_of heard) len capacity ready
+  serves-in Attached heard p t = serves-attached new (attach_of heard) len capacity ready
+
+  to-do-in : (named : NamedLink) (heard : LinkHeard) → Readies limit old channel named it len capacity ready
+      → Answered gives old out channel (said.Attach it named) (Ok heard) new out_new
+      → IsToBeDoneBy limit (attach_of heard) named ready
+  to-do-in (Waiting handle) (Live session (taken.Attach (attach.ByLink answer))) p t =
+      to-do-by limit old channel out it handle session answer new out_new len capacity t ready p
+  to-do-in (Waiting handle) heard p t = tt
+  to-do-in Absent heard p t = absent-to-do limit (attach_of heard) ready
+  to-do-in Attached heard p t = attached-to-do limit (attach_of heard) ready
 
   module _ (frames : List SessionFrame) (told : List Event) (behind : Talk) where
     abbrev Comes : NamedLink → Took → ℕ → Type 0
@@ -237,21 +279,24 @@ module _ (limit : ℕ) (old : Talk) (channel : IncomingChannel) (out : List Sess
 
     -- so many of the link's messages were open before
     pub becomes-opened : (named : NamedLink) (heard : LinkHeard)
-        → Readies limit old channel named it len capacity events room ready
+        → Readies limit old channel named it len capacity ready
         → Answered gives old out channel (said.Attach it named) (Ok heard) new out_new
         → Comes named (attach_of heard) (count_of ready)
         → Comes named (attach_of heard) (opened_in old (attach_of heard) named)
     becomes-opened (Waiting handle) (Live session (taken.Attach (attach.ByLink answer))) p t so =
         subst (λ (n : ℕ). Comes (Waiting handle) (took.ByLink session answer) n)
-        (opened-by limit old channel out it handle session answer new out_new len capacity events room t ready p) so
+        (opened-by limit old channel out it handle session answer new out_new len capacity t ready p) so
     becomes-opened (Waiting handle) heard p t so = so
     becomes-opened Absent heard p t so = becomes-absent (attach_of heard) (count_of ready) _ so
     becomes-opened Attached heard p t so = becomes-attached (attach_of heard) (count_of ready) _ so
 
-  pub serves-for : (named : NamedLink) (heard : LinkHeard) (it_took : Took) → it_took ≡ attach_of heard
-      → Readies limit old channel named it len capacity events room ready
-      → Answered gives old out channel (said.Attach it named) (Ok heard) new out_new
-      → Serves limit new it_took named len capacity events room ready
-  serves-for named heard it_took is p t =
-      subst (λ (k : Took). Serves limit new k named len capacity events room ready) (sym is)
-      (serves-in named heard p t)
+  module _ (named : NamedLink) (heard : LinkHeard) (it_took : Took) (is : it_took ≡ attach_of heard)
+      (p : Readies limit old channel named it len capacity ready)
+      (t : Answered gives old out channel (said.Attach it named) (Ok heard) new out_new) where
+    pub serves-for : Serves new it_took named len capacity ready
+    serves-for =
+        subst (λ (k : Took). Serves new k named len capacity ready) (sym is) (serves-in named heard p t)
+
+    pub to-do-for : IsToBeDoneBy limit it_took named ready
+    to-do-for =
+        subst (λ (k : Took). IsToBeDoneBy limit k named ready) (sym is) (to-do-in named heard p t)

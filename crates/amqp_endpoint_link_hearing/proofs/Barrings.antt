@@ -65,7 +65,7 @@ use Rattle.amqp_endpoint_link_hearing.specs.declared.unechoed.Closing.{Closing}
 use Rattle.amqp_endpoint_link_hearing.proofs.Leavings.{told-done}
 use Rattle.amqp_endpoint_link_hearing.proofs.Lending.{lives}
 use Rattle.amqp_endpoint_link_hearing.proofs.Lent.{behind-talk}
-use Rattle.amqp_endpoint_link_hearing.proofs.Doing.{unchanged}
+use Rattle.amqp_endpoint_messages.proofs.AttachDone.{unchanged}
 use Rattle.amqp_endpoint_link_hearing.proofs.Plain.{answers-plain}
 use Rattle.amqp_endpoint_link_hearing.proofs.Takes.{IsNumbered}
 

@@ -7,12 +7,14 @@ use Rattle.amqp_session_performatives.specs.declared.session_frame.SessionFrame.
 use Rattle.amqp_link.specs.declared.relay.AttachTold.{AttachTold}
 use Rattle.amqp_endpoint_links.specs.declared.asking.NamedLink.{NamedLink}
 use Rattle.amqp_endpoint_links.specs.declared.asking.NamedLink.TheVariants.{Absent, Attached, Waiting}
+use Rattle.amqp_endpoint_messages.specs.MadeReady.{HasRoomToTell}
 use Rattle.amqp_endpoint_messages.specs.declared.giving_up.AttachReady.{AttachReady}
 use Rattle.amqp_endpoint_model.specs.declared.event.Event.{Event}
 use Rattle.amqp_endpoint_linking.specs.Linking.{Talk}
 use Rattle.amqp_endpoint_linking.specs.Handed.{Tells}
 use Rattle.amqp_endpoint_link_hearing.specs.Attaching.{BecomesBy, ByLink, asked_told}
-use Rattle.amqp_endpoint_link_hearing.specs.Readied.{Serves, ServesFor, count_of}
+use Rattle.amqp_endpoint_link_hearing.specs.Readied.{IsToBeDone, IsToBeDoneBy, Serves, ServesFor, ServesItsOwn}
+use Rattle.amqp_endpoint_link_hearing.specs.Readied.{count_of}
 use Rattle.amqp_endpoint_link_hearing.specs.declared.hearing.Took.{Took}
 use Rattle.amqp_endpoint_link_hearing.specs.declared.hearing.Took.TheVariants as took
 
@@ -24,55 +26,77 @@ told-alone IsSo told is out events events_new are =
     record { frames = []; events = told; is_so = is; queued = sym (append-nil out); are_told = are }
 
 -- the link that waited took it, and what was made ready serves
-module _ (limit : ℕ) (talk : Talk) (it : Took) (named : NamedLink) (len capacity events room : ℕ)
-    (ready : Option AttachReady) (session : ℕ) (answer : AttachTold) (handle : OutputHandle)
-    (is : it ≡ took.ByLink session answer) (waits : named ≡ Waiting handle) where
-  serves-here : Serves limit talk it named len capacity events room ready
-      → Serves limit talk (took.ByLink session answer) (Waiting handle) len capacity events room ready
-  serves-here serves =
-      subst (λ (k : Took). Serves limit talk k (Waiting handle) len capacity events room ready) is
-      (subst (λ (n : NamedLink). Serves limit talk it n len capacity events room ready) waits serves)
+module _ (talk : Talk) (it : Took) (named : NamedLink) (len capacity : ℕ) (ready : Option AttachReady) (session : ℕ)
+    (answer : AttachTold) (handle : OutputHandle) (is : it ≡ took.ByLink session answer)
+    (waits : named ≡ Waiting handle) (serves : Serves talk it named len capacity ready) where
+  serves-here : Serves talk (took.ByLink session answer) (Waiting handle) len capacity ready
+  serves-here =
+      subst (λ (k : Took). Serves talk k (Waiting handle) len capacity ready) is
+      (subst (λ (n : NamedLink). Serves talk it n len capacity ready) waits serves)
 
-  pub unready : ready ≡ None → Serves limit talk it named len capacity events room ready → ⊥
-  unready none serves =
+  pub unready : ready ≡ None → ⊥
+  unready none =
       subst
-      (λ (o : Option AttachReady).
-      Serves limit talk (took.ByLink session answer) (Waiting handle) len capacity events room o) none
-      (serves-here serves)
+      (λ (o : Option AttachReady). Serves talk (took.ByLink session answer) (Waiting handle) len capacity o) none
+      serves-here
 
-  pub can-go-on : (made : AttachReady) → ready ≡ Some made → Serves limit talk it named len capacity events room ready
-      → ServesFor limit talk session handle answer len capacity events room made
-  can-go-on made some serves =
-      subst
-      (λ (o : Option AttachReady).
-      Serves limit talk (took.ByLink session answer) (Waiting handle) len capacity events room o) some
-      (serves-here serves)
+  module _ (made : AttachReady) (some : ready ≡ Some made) where
+    serves-made : ServesFor talk session handle len capacity made
+    serves-made =
+        subst
+        (λ (o : Option AttachReady). Serves talk (took.ByLink session answer) (Waiting handle) len capacity o) some
+        serves-here
 
--- it took it, of whose messages so many were open
-module _ (limit : ℕ) (talk : Talk) (it : Took) (named : NamedLink) (session : ℕ) (answer : AttachTold)
-    (handle : OutputHandle) (is : it ≡ took.ByLink session answer) (waits : named ≡ Waiting handle)
-    (ready : Option AttachReady) (made : AttachReady) (some : ready ≡ Some made) where
-  pub by-link : (attach : Attach) (new : Talk) (out out_new : List SessionFrame) (events events_new : List Event)
-      → Tells (λ (frames : List SessionFrame) (told : List Event).
-      ByLink limit made.count talk session handle answer frames told new) out events out_new events_new
-      → Tells (λ (frames : List SessionFrame) (told : List Event).
-      BecomesBy limit (count_of ready) it named talk attach frames told new) out events out_new events_new
-  by-link attach new out out_new events events_new t =
-      let so : ByLink limit (count_of ready) talk session handle answer t.frames t.events new =
-      subst (λ (o : Option AttachReady). ByLink limit (count_of o) talk session handle answer t.frames t.events new)
-      (sym some) t.is_so in
-      record {
-        frames = t.frames;
-        events = t.events;
-        is_so =
-            subst (λ (k : Took). BecomesBy limit (count_of ready) k named talk attach t.frames t.events new) (sym is)
-            (subst
-            (λ (n : NamedLink).
-            BecomesBy limit (count_of ready) (took.ByLink session answer) n talk attach t.frames t.events new)
-            (sym waits) so);
-        queued = t.queued;
-        are_told = t.are_told;
-      }
+    pub can-go-on : ServesItsOwn talk len capacity made
+    can-go-on =
+        subst (λ (n : ℕ). ServesFor talk n made.closing.handle len capacity made) (sym serves-made.session)
+        (subst (λ (h : OutputHandle). ServesFor talk session h len capacity made) (sym serves-made.handle) serves-made)
+
+    pub can-be-told : (told room : ℕ) → HasRoomToTell (count_of ready) told room
+        → HasRoomToTell made.closing.count told room
+    can-be-told told room tells =
+        subst (λ (o : Option AttachReady). HasRoomToTell (count_of o) told room) some tells
+
+    module _ (limit : ℕ) (left : IsToBeDoneBy limit it named ready) where
+      pub to-be-done : IsToBeDone limit answer made
+      to-be-done =
+          subst
+          (λ (o : Option AttachReady). IsToBeDoneBy limit (took.ByLink session answer) (Waiting handle) o) some
+          (subst (λ (k : Took). IsToBeDoneBy limit k (Waiting handle) ready) is
+          (subst (λ (n : NamedLink). IsToBeDoneBy limit it n ready) waits left))
+
+      -- it took it, of whose messages so many were open
+      pub by-link : (attach : Attach) (new : Talk) (out out_new : List SessionFrame) (events events_new : List Event)
+          → Tells (λ (frames : List SessionFrame) (told : List Event).
+          ByLink limit made.closing.count talk made.closing.session made.closing.handle answer frames told new) out
+          events out_new events_new
+          → Tells (λ (frames : List SessionFrame) (told : List Event).
+          BecomesBy limit (count_of ready) it named talk attach frames told new) out events out_new events_new
+      by-link attach new out out_new events events_new t =
+          let at_session : ByLink limit made.closing.count talk session made.closing.handle answer t.frames t.events
+          new =
+          subst
+          (λ (n : ℕ). ByLink limit made.closing.count talk n made.closing.handle answer t.frames t.events new)
+          serves-made.session t.is_so in
+          let at_handle : ByLink limit made.closing.count talk session handle answer t.frames t.events new =
+          subst (λ (h : OutputHandle). ByLink limit made.closing.count talk session h answer t.frames t.events new)
+          serves-made.handle at_session in
+          let so : ByLink limit (count_of ready) talk session handle answer t.frames t.events new =
+          subst (λ (o : Option AttachReady). ByLink limit (count_of o) talk session handle answer t.frames t.events new)
+          (sym some) at_handle in
+          record {
+            frames = t.frames;
+            events = t.events;
+            is_so =
+                subst (λ (k : Took). BecomesBy limit (count_of ready) k named talk attach t.frames t.events new)
+                (sym is)
+                (subst
+                (λ (n : NamedLink).
+                BecomesBy limit (count_of ready) (took.ByLink session answer) n talk attach t.frames t.events new)
+                (sym waits) so);
+            queued = t.queued;
+            are_told = t.are_told;
+          }
 
 -- nothing more comes of it than what is told
 module _ (limit count : ℕ) (talk : Talk) (it : Took) (named : NamedLink) (attach : Attach) (out : List SessionFrame)

@@ -50,7 +50,7 @@ use Rattle.amqp_endpoint_link_hearing.specs.declared.disposing.Ready.{Ready}
 use Rattle.amqp_endpoint_link_hearing.specs.declared.unechoed.Closing.{Closing}
 use Rattle.amqp_endpoint_link_hearing.proofs.Barrings.{Same, all-told, echoed-same, for-all, live-behind, made-can}
 use Rattle.amqp_endpoint_link_hearing.proofs.Barrings.{made-on}
-use Rattle.amqp_endpoint_link_hearing.proofs.Doing.{LinkAct}
+use Rattle.amqp_endpoint_messages.proofs.AttachDone.{LinkAct}
 use Rattle.amqp_endpoint_link_hearing.proofs.Heard.{IsTaken, taken-in}
 use Rattle.amqp_endpoint_link_hearing.proofs.Lent.{behind-talk}
 use Rattle.amqp_endpoint_link_hearing.proofs.Plain.{answers-plain}

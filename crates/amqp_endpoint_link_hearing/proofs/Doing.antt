@@ -6,12 +6,9 @@ use Rattle.amqp_session_types.specs.declared.error.Error.{Error}
 use Rattle.amqp_session_types.specs.declared.handles.OutputHandle.{OutputHandle}
 use Rattle.amqp_session_performatives.specs.declared.session_frame.SessionFrame.{SessionFrame}
 use Rattle.amqp_session_core.specs.declared.batch.BehindFrame.TheVariants as behind
-use Rattle.amqp_session_core.specs.Steps.{Changes, Deallocates, SendsBehind}
-use Rattle.amqp_link_base.specs.declared.detached.Detached.{Detached}
-use Rattle.amqp_link.specs.declared.relay.AttachTold.{AttachTold}
-use Rattle.amqp_link_receiver.specs.declared.answer.Told.{Told}
-use Rattle.amqp_endpoint_links.specs.History.{AskingHistory, AskingAct, InSession}
-use Rattle.amqp_endpoint_model.specs.State.{error_of, fits, frame_of}
+use Rattle.amqp_session_core.specs.Steps.{Deallocates, SendsBehind}
+use Rattle.amqp_endpoint_links.specs.History.{AskingHistory, InSession}
+use Rattle.amqp_endpoint_model.specs.State.{error_of}
 use Rattle.amqp_session_outgoing.specs.Queues.{room_behind}
 use Rattle.amqp_endpoint_fitting.specs.Plain.{SaysConditionAlone}
 use Rattle.amqp_endpoint_fitting.proofs.Frames.{detach_fits, message_size_exceeded-short, not_allowed-short}
@@ -21,7 +18,7 @@ use Rattle.amqp_endpoint_fitting.specs.Read.{IsRead}
 use Rattle.amqp_endpoint_conversation.specs.Going.{Goes, Rests}
 use Rattle.amqp_endpoint_conversation.proofs.Calls.{changed-goes, changed-rests}
 use Rattle.amqp_endpoint_conversation.proofs.Goings.{read-behind}
-use Rattle.amqp_endpoint_attached.specs.Detaching.{DetachGiven, is_there, own_detach}
+use Rattle.amqp_endpoint_attached.specs.Detaching.{is_there, own_detach}
 use Rattle.amqp_endpoint_attached.specs.Linked.{Linked, end_at, gives}
 use Rattle.amqp_endpoint_attached.specs.TakenOut.{TakenOut}
 use Rattle.amqp_endpoint_linking.specs.Linking.{Link, Talk}
@@ -30,47 +27,8 @@ use Rattle.amqp_endpoint_link_hearing.specs.InSession.{AnswersIf, Closes, Closes
 use Rattle.amqp_endpoint_link_hearing.specs.Leaving.{HasPlace, detach_frame}
 use Rattle.amqp_endpoint_link_hearing.specs.declared.closing.Condition.{Condition}
 use Rattle.amqp_endpoint_link_hearing.specs.declared.closing.Condition.TheVariants as condition
+use Rattle.amqp_endpoint_messages.proofs.AttachDone.{Done, Fits, LinkAct, given, unchanged}
 use Rattle.amqp_endpoint_link_hearing.proofs.Plain.{answers-plain}
-
-abbrev pub LinkAct : Type 0
-LinkAct = AskingAct Link AttachTold Told Detached
-
--- what is done in a session is done by steps that bring what fits
-pub record Done (limit : ℕ) (old : Linked) (frames : List SessionFrame) (new : Linked) : Type 0 where
-  pub steps : List LinkAct
-  pub history : AskingHistory gives old steps new
-  pub sends : AllAskingSendFit old.session.fields.channel.0 limit steps
-  pub ends : AllAskingEndFit limit steps
-  pub hand : AllAskingHand steps frames
-
-pub unchanged : (limit : ℕ) (old : Linked) (frames : List SessionFrame) (new : Linked) → new ≡ old → frames ≡ []
-    → Done limit old frames new
-unchanged limit old frames new is none =
-    record { steps = []; history = is; sends = tt; ends = tt; hand = none }
-
--- the own Detach of a link fits every peer's limit
-abbrev pub Fits : ℕ → Linked → OutputHandle → Bool → Option Error → Type 0
-Fits limit old handle closed error =
-    fits limit (frame_of (detach_frame old.session.fields.channel (own_detach handle closed error))) ≡ true
-
--- a link sends its Detach, as it is changed
-pub given : (limit : ℕ) (old : Linked) (handle : OutputHandle) (closed : Bool) (error : Option Error)
-    (frames : List SessionFrame) (new : Linked) → Fits limit old handle closed error
-    → DetachGiven old handle closed error [] new frames → Done limit old frames new
-given limit old handle closed error frames new fit g =
-    let s = g.sent in
-    record {
-      steps =
-          InSession (Changes handle.0 (record { number = g.number; link = g.before })
-          (record { number = g.number; link = g.after }))
-          ∷ InSession (SendsBehind handle (behind.Detach (own_detach handle closed error)) s.left s.answer) ∷ [];
-      history =
-          (record old { session = s.mid }, (s.changed, refl), (new, (s.sent, s.rest), refl));
-      sends = (tt, (fit, tt));
-      ends = (tt, (tt, tt));
-      hand =
-          ([], g.frames, refl, (g.frames, [], s.frames_are, refl, sym (append-nil g.frames)), g.added);
-    }
 
 -- a link leaves its session, or not
 abbrev out-steps : OutputHandle → Option Link → List LinkAct

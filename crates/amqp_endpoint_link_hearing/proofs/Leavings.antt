@@ -29,7 +29,8 @@ use Rattle.amqp_endpoint_link_hearing.specs.Leaves.{LinkLeaves, told_most}
 use Rattle.amqp_endpoint_link_hearing.specs.Leaving.{HasAnswer, IsLeft, detach_frame}
 use Rattle.amqp_endpoint_link_hearing.specs.Naming.{link_in, link_of}
 use Rattle.amqp_endpoint_link_hearing.specs.declared.detaching.Ready.{Ready}
-use Rattle.amqp_endpoint_link_hearing.proofs.Doing.{Done, Fits, done-goes, done-rests, parts-done}
+use Rattle.amqp_endpoint_messages.proofs.AttachDone.{Done, Fits}
+use Rattle.amqp_endpoint_link_hearing.proofs.Doing.{done-goes, done-rests, parts-done}
 use Rattle.amqp_endpoint_link_hearing.proofs.Takes.{IsNumbered}
 
 -- that it tells changes nothing that its session tells of itself

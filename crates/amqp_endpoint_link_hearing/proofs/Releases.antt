@@ -29,7 +29,7 @@ use Rattle.amqp_endpoint_link_hearing.specs.Flowing.{LeaveWith, LeavesOnce, Leav
 use Rattle.amqp_endpoint_link_hearing.specs.Heard.{session_of}
 use Rattle.amqp_endpoint_link_hearing.specs.InSession.{GoesOn}
 use Rattle.amqp_endpoint_link_hearing.specs.Saying.{LinkHeard}
-use Rattle.amqp_endpoint_link_hearing.proofs.Doing.{LinkAct}
+use Rattle.amqp_endpoint_messages.proofs.AttachDone.{LinkAct}
 use Rattle.amqp_endpoint_link_hearing.proofs.Heard.{taken-in}
 use Rattle.amqp_endpoint_link_hearing.proofs.Lent.{behind-talk}
 use Rattle.amqp_endpoint_link_hearing.proofs.Plain.{answers-plain}

@@ -1,10 +1,9 @@
 -- The peer's Attach (part 2, 2.6.3, 2.7.3).
-use Rattle.std.specs.Prelude.{◌≡◌, ◌⊎◌, ◌++◌, ℕ, List, [], ◌∷◌, Option, Some, option_map, Result, Ok, Err}
+use Rattle.std.specs.Prelude.{◌≡◌, ◌⊎◌, ◌++◌, ℕ, List, [], ◌∷◌, Option, Some, None, option_map, Result, Ok, Err}
 use Rattle.amqp_session_types.specs.declared.channels.IncomingChannel.{IncomingChannel}
 use Rattle.amqp_session_types.specs.declared.handles.OutputHandle.{OutputHandle}
 use Rattle.amqp_session_performatives.specs.declared.attach.Attach.{Attach}
 use Rattle.amqp_session_performatives.specs.declared.session_frame.SessionFrame.{SessionFrame}
-use Rattle.amqp_link_base.specs.declared.exchange.AttachExchange.{AttachExchange}
 use Rattle.amqp_link_types.specs.declared.link_error.LinkError.{LinkError}
 use Rattle.amqp_link_types.specs.declared.link_error.LinkError.TheVariants.{SenderAttach, ReceiverAttach}
 use Rattle.amqp_link.specs.declared.relay.AttachTold.{AttachTold}
@@ -27,7 +26,7 @@ use Rattle.amqp_endpoint_tables.specs.State.{reached}
 use Rattle.amqp_endpoint_linking.specs.Linking.{Link, Links, Talk}
 use Rattle.amqp_endpoint_linking.specs.Hearing.{IsUntold}
 use Rattle.amqp_endpoint_messages.specs.All.{open_count}
-use Rattle.amqp_endpoint_messages.specs.GivingUp.{AttachedAt, ClosedFor}
+use Rattle.amqp_endpoint_messages.specs.GivingUp.{AttachedAt, ClosedFor, attached_told}
 use Rattle.amqp_endpoint_messages.specs.GivingUp as giving_up
 use Rattle.amqp_endpoint_messages.specs.MadeReady.{MadeRoom}
 use Rattle.amqp_endpoint_link_hearing.specs.InSession.{GoesOn}
@@ -55,10 +54,6 @@ outcome_of (told.Receiver answer) = of_receiver answer
 abbrev pub asked_told : ℕ → Attach → List Event
 asked_told session attach = event.LinkAsked (record { session = session; attach = attach }) ∷ []
 
--- a link is attached at both ends
-abbrev pub attached_told : ℕ → AttachExchange → List Event
-attached_told link exchange = event.Attached (record { link = link; exchange = exchange }) ∷ []
-
 -- a link is closed here, for its peer's fault
 abbrev pub refused_told : ℕ → ℕ → LinkError → List Event
 refused_told session link error = giving_up.refused_told session link (LinkFault error)
@@ -68,8 +63,8 @@ refused_told session link error = giving_up.refused_told session link (LinkFault
 pub record IsAttached (limit session count : ℕ) (handle : OutputHandle) (attaching : Attaching) (link : Link)
     (old : Talk) (frames : List SessionFrame) (events : List Event) (new : Talk) : Type 0 where
   pub behind : List Event
-  pub goes : GoesOn (AttachedAt limit session count handle (error_of not_allowed) attaching.aborts frames behind) old
-      session new
+  pub goes : GoesOn (AttachedAt limit session count handle (error_of not_allowed) attaching.aborts None frames behind)
+      old session new
   pub told : events ≡ attached_told link.number attaching.exchange ++ behind
 
 -- one that refuses it is closed

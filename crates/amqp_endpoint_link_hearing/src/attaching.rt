@@ -1,27 +1,23 @@
 //! The peer's Attach (part 2, 2.6.3, 2.7.3).
-ghost use Rattle.std.specs.Prelude.{◌≡◌, ◌+◌, ◌<◌, ◌≤◌, ◌++◌, ℕ, All, IfErr, IfOk, IsSome, List, OnErr, OnOk, Some};
+ghost use Rattle.std.specs.Prelude.{◌≡◌, ◌+◌, ◌<◌, ◌≤◌, ◌++◌, ℕ, IfErr, IfOk, List, None, OnErr, OnOk};
 ghost use Rattle.std.specs.Vec.{vec_capacity, vec_len};
 ghost use Rattle.std.specs.VecDeque.{deque_capacity, deque_len};
 ghost use Rattle.amqp_link_unsettled.specs.declared.exchanging.Abort.{Abort};
 ghost use Rattle.amqp_endpoint_links.specs.declared.asking.NamedLink.TheVariants.{Waiting};
-ghost use Rattle.amqp_endpoint_links.specs.declared.hearing.LinkPerformative.TheVariants as said;
 ghost use Rattle.amqp_endpoint_model.specs.declared.error.EndpointError.TheVariants.{Link as LinkFault};
 ghost use Rattle.amqp_endpoint_model.specs.Relay.{IsSessionFault};
 ghost use Rattle.amqp_endpoint_model.specs.State.{error_of};
 ghost use Rattle.amqp_endpoint_model.specs.Step.{not_allowed};
-ghost use Rattle.amqp_endpoint_tables.specs.State.{live_at};
 ghost use Rattle.amqp_endpoint_conversation.specs.Going.{Goes, Rests};
-ghost use Rattle.amqp_endpoint_messages.specs.GivingUp.{AttachedAt, ClosedFor, IsBare};
-ghost use Rattle.amqp_endpoint_messages.specs.MadeReady.{HasRoomToSend, HasRoomToTell, IsMadeReady};
-ghost use Rattle.amqp_endpoint_linking.specs.Linking.{Session};
+ghost use Rattle.amqp_endpoint_messages.specs.GivingUp.{AttachedAt, ClosedFor, attached_told};
+ghost use Rattle.amqp_endpoint_messages.specs.MadeReady.{HasRoomToTell, IsMadeReady};
 ghost use Rattle.amqp_endpoint_linking.specs.Handed.{Tells};
-ghost use Rattle.amqp_endpoint_link_hearing.specs.Attaching.{BecomesBy, ByLink, HearsAttach, HearsReady, MakesRoom};
-ghost use Rattle.amqp_endpoint_link_hearing.specs.Attaching.{RefusesAttach, asked_told, attached_told};
-ghost use Rattle.amqp_endpoint_link_hearing.specs.Attaching.{of_receiver, of_sender, outcome_of};
+ghost use Rattle.amqp_endpoint_link_hearing.specs.Attaching.{BecomesBy, ByLink, HearsAttach, MakesRoom, RefusesAttach};
+ghost use Rattle.amqp_endpoint_link_hearing.specs.Attaching.{asked_told, of_receiver, of_sender, outcome_of};
 ghost use Rattle.amqp_endpoint_link_hearing.specs.InSession.{GoesOn};
-ghost use Rattle.amqp_endpoint_link_hearing.specs.Naming.{link_of};
-ghost use Rattle.amqp_endpoint_link_hearing.specs.Readied.{Readies, Serves, ServesFor, count_of};
-ghost use Rattle.amqp_endpoint_link_hearing.specs.Saying.{BarsSaid};
+ghost use Rattle.amqp_endpoint_link_hearing.specs.Readied.{ClosesIn, ClosesOn, HasItsPlace, IsToBeDone};
+ghost use Rattle.amqp_endpoint_link_hearing.specs.Readied.{IsToBeDoneBy, Readies, Serves, ServesItsOwn, count_in};
+ghost use Rattle.amqp_endpoint_link_hearing.specs.Readied.{count_of};
 
 use crate::hearing::{Took, attach_of};
 use crate::leaving::handle_is_read;
@@ -30,7 +26,10 @@ use crate::refusing::refuse;
 use amqp_endpoint_conversation::Conversation;
 use amqp_endpoint_fitting::frames_are_read;
 use amqp_endpoint_links::{LinkPerformative, NamedLink, Numbered};
-use amqp_endpoint_messages::{AttachReady, go_on_attached, make_attach_ready, refuse_attach};
+use amqp_endpoint_messages::{
+    AttachReady, Closing, close_for, go_on_attached, make_attach_ready, make_closing,
+    make_room_to_tell, open_in,
+};
 use amqp_endpoint_model::{Attached as AttachedEvent, EndpointError, Event, LinkAsked};
 use amqp_endpoint_tables::Links;
 use amqp_link::{AttachTold, LinkEnd};
@@ -79,115 +78,21 @@ pub fn hear_attach(
     ensures goes { 512 ≤ limit → Goes limit talk.old talk.new out.old.items out.new.items }
     ensures rests { Rests talk.old talk.new out.old.items out.new.items }
 {
-    events.reserve(1)?;
     let asked = attach.clone()?;
     let named = named_on(talk, links, channel, &attach);
-    let ready = make_ready(talk, alloc, limit, channel, named, &attach, out, events)?;
-    match take_attach(
-        talk, links, alloc, limit, channel, attach, asked, named, ready, out, events,
-    ) {
-        Ok(()) => Ok(()),
-        Err(error) => Err(error),
-    }
-}
-
-/// Makes ready what the Attach leaves to be done for the link that waits for it, if one does, and room for all of it.
-/// It is refused where there is no memory, and nothing changes then.
-fn make_ready(
-    talk: &mut Conversation<Numbered<LinkEnd>>,
-    alloc: Global,
-    limit: u32,
-    channel: IncomingChannel,
-    named: NamedLink,
-    attach: &Attach,
-    out: &mut VecDeque<SessionFrame>,
-    events: &mut Vec<Event>,
-) -> Result<Option<AttachReady>, AllocError>
-    requires room { vec_len events.old < vec_capacity events.old }
-    ensures ready { IfOk result (Readies limit talk.new channel named attach.now (deque_len out.new)
-        (deque_capacity out.new) (vec_len events.new) (vec_capacity events.new)) }
-    ensures made { OnOk result (MakesRoom named talk.old channel talk.new) }
-    ensures room { OnOk result (vec_len events.new < vec_capacity events.new) }
-    ensures kept { OnErr result (talk.new ≡ talk.old) }
-    ensures out { out.new.items ≡ out.old.items }
-    ensures events { events.new.items ≡ events.old.items }
-{
-    match named {
-        NamedLink::Waiting(handle) => {
-            make_ready_for(talk, alloc, limit, channel, handle, attach, out, events)
-        }
-        NamedLink::Absent => Ok(None),
-        NamedLink::Attached => Ok(None),
-    }
-}
-
-/// The same for the link with this own handle in the session that the channel reaches, if that has begun.
-fn make_ready_for(
-    talk: &mut Conversation<Numbered<LinkEnd>>,
-    alloc: Global,
-    limit: u32,
-    channel: IncomingChannel,
-    handle: OutputHandle,
-    attach: &Attach,
-    out: &mut VecDeque<SessionFrame>,
-    events: &mut Vec<Event>,
-) -> Result<Option<AttachReady>, AllocError>
-    requires room { vec_len events.old < vec_capacity events.old }
-    ensures ready { IfOk result (Readies limit talk.new channel (Waiting handle) attach.now (deque_len out.new)
-        (deque_capacity out.new) (vec_len events.new) (vec_capacity events.new)) }
-    ensures made { OnOk result (MakesRoom (Waiting handle) talk.old channel talk.new) }
-    ensures room { OnOk result (vec_len events.new < vec_capacity events.new) }
-    ensures kept { OnErr result (talk.new ≡ talk.old) }
-    ensures out { out.new.items ≡ out.old.items }
-    ensures events { events.new.items ≡ events.old.items }
-{
-    let Some(number) = talk.sessions.reached(channel) else {
-        return Ok(None);
-    };
-    let Some(session) = talk.sessions.live_mut(number) else {
-        return Ok(None);
-    };
-    match make_attach_ready(session, alloc, limit, handle, attach, out, events) {
-        Ok(ready) => Ok(Some(ready)),
-        Err(error) => Err(error),
-    }
-}
-
-/// Takes it, and a copy of it. There is room for what it tells, and for what is done for the link that waits for it, if
-/// one does.
-#[inline(never)]
-fn take_attach(
-    talk: &mut Conversation<Numbered<LinkEnd>>,
-    links: &mut Links<LinkEnd>,
-    alloc: Global,
-    limit: u32,
-    channel: IncomingChannel,
-    attach: Boxed<Attach>,
-    asked: Boxed<Attach>,
-    named: NamedLink,
-    ready: Option<AttachReady>,
-    out: &mut VecDeque<SessionFrame>,
-    events: &mut Vec<Event>,
-) -> Result<(), EndpointError>
-    requires copy { asked ≡ attach }
-    requires ready { Readies limit talk.old channel named attach (deque_len out.old) (deque_capacity out.old)
-        (vec_len events.old) (vec_capacity events.old) ready }
-    requires room { vec_len events.old < vec_capacity events.old }
-    ensures ok { OnOk result
-        (Tells (λ frames told. HearsReady named talk.old links.old limit channel attach frames told talk.new links.new)
-        out.old.items events.old.items out.new.items events.new.items) }
-    ensures err { IfErr result (λ e.
-        IsSessionFault e × BarsSaid talk.old channel (said.Attach attach named) e talk.new) }
-    ensures kept { OnErr result ((links.new ≡ links.old) × (out.new.items ≡ out.old.items)
-        × (events.new.items ≡ events.old.items)) }
-    ensures goes { 512 ≤ limit → Goes limit talk.old talk.new out.old.items out.new.items }
-    ensures rests { Rests talk.old talk.new out.old.items out.new.items }
-{
+    let closing = closing_on(talk, alloc, channel, named)?;
+    make_room_to_tell(events, count_in(&closing))?;
+    let ready = make_ready(talk, alloc, limit, closing, &attach, out)?;
     let said = LinkPerformative::Attach(attach, named);
     match amqp_endpoint_conversation::hear(talk, alloc, out, channel, said) {
         Ok(heard) => {
             let took = attach_of(heard);
-            attach_heard(talk, alloc, limit, took, named, ready, asked, out, events);
+            let awaited = Awaited {
+                named,
+                ready,
+                asked,
+            };
+            attach_heard(talk, alloc, took, awaited, out, events);
             Ok(())
         }
         Err(refusal) => match refuse(links, refusal, events) {
@@ -197,34 +102,127 @@ fn take_attach(
     }
 }
 
-/// The Attach was heard. There is room for what is told, and for what is done for the link that waited for it.
-fn attach_heard(
+/// What an Attach of the peer finds once the session takes it.
+#[derive(Drop)]
+struct Awaited {
+    /// What the endpoint has of the link that it names.
+    named: NamedLink,
+    /// What is made ready for that link, where it waits for the Attach in a session that has begun.
+    ready: Option<AttachReady>,
+    /// The Attach, to be told where the peer asks for a link by it.
+    asked: Boxed<Attach>,
+}
+
+/// What the link that waits for the Attach is closed with where it can't take it, if one waits in the session that the
+/// channel reaches, and that has begun. It is refused where there is no memory.
+fn closing_on(
+    talk: &Conversation<Numbered<LinkEnd>>,
+    alloc: Global,
+    channel: IncomingChannel,
+    named: NamedLink,
+) -> Result<Option<Closing>, AllocError>
+    ensures { IfOk result (ClosesOn talk.now channel named) }
+{
+    match named {
+        NamedLink::Waiting(handle) => closing_in(talk, alloc, channel, handle),
+        NamedLink::Absent => Ok(None),
+        NamedLink::Attached => Ok(None),
+    }
+}
+
+/// The same of the link with this own handle in that session.
+fn closing_in(
+    talk: &Conversation<Numbered<LinkEnd>>,
+    alloc: Global,
+    channel: IncomingChannel,
+    handle: OutputHandle,
+) -> Result<Option<Closing>, AllocError>
+    ensures { IfOk result (ClosesOn talk.now channel (Waiting handle)) }
+{
+    let Some(number) = talk.sessions.reached(channel) else {
+        return Ok(None);
+    };
+    let Some(session) = talk.sessions.live(number) else {
+        return Ok(None);
+    };
+    let count = open_in(session, handle);
+    match make_closing(session, alloc, number, handle, count) {
+        Ok(closing) => Ok(Some(closing)),
+        Err(error) => Err(error),
+    }
+}
+
+/// How many messages of that link are open.
+fn count_in(closing: &Option<Closing>) -> usize
+    ensures { result ≡ count_in closing.now }
+{
+    match closing {
+        Some(closing) => closing.count,
+        None => 0,
+    }
+}
+
+/// Makes ready what the Attach leaves to be done for the link that waits for it, with what that is closed with, if one
+/// waits. It is refused where there is no memory, and nothing changes then.
+fn make_ready(
     talk: &mut Conversation<Numbered<LinkEnd>>,
     alloc: Global,
     limit: u32,
+    closing: Option<Closing>,
+    attach: &Attach,
+    out: &mut VecDeque<SessionFrame>,
+) -> Result<Option<AttachReady>, AllocError>
+    requires { HasItsPlace talk.old closing }
+    ensures ready { (channel : IncomingChannel) (named : NamedLink) → ClosesOn talk.old channel named closing →
+        IfOk result (Readies limit talk.new channel named attach.now (deque_len out.new) (deque_capacity out.new)) }
+    ensures counts { IfOk result (λ ready. count_of ready ≡ count_in closing) }
+    ensures made { (channel : IncomingChannel) (named : NamedLink) → ClosesOn talk.old channel named closing →
+        OnOk result (MakesRoom named talk.old channel talk.new) }
+    ensures kept { OnErr result (talk.new ≡ talk.old) }
+    ensures out { out.new.items ≡ out.old.items }
+{
+    let Some(closing) = closing else {
+        return Ok(None);
+    };
+    let Some(session) = talk.sessions.live_mut(closing.session) else {
+        unreachable!()
+    };
+    match make_attach_ready(session, alloc, limit, closing, attach, out) {
+        Ok(ready) => Ok(Some(ready)),
+        Err(error) => Err(error),
+    }
+}
+
+/// The Attach was heard. There is room for what is told, and what was made ready serves the link that waited for it.
+fn attach_heard(
+    talk: &mut Conversation<Numbered<LinkEnd>>,
+    alloc: Global,
     took: Took,
-    named: NamedLink,
-    ready: Option<AttachReady>,
-    attach: Boxed<Attach>,
+    awaited: Awaited,
     out: &mut VecDeque<SessionFrame>,
     events: &mut Vec<Event>,
 )
-    requires serves { Serves limit talk.old took named (deque_len out.old) (deque_capacity out.old) (vec_len events.old)
-        (vec_capacity events.old) ready }
-    requires room { vec_len events.old < vec_capacity events.old }
-    ensures becomes { Tells (λ frames told. BecomesBy limit (count_of ready) took named talk.old attach frames told
-        talk.new)
+    requires serves { Serves talk.old took awaited.named (deque_len out.old) (deque_capacity out.old) awaited.ready }
+    requires tells { HasRoomToTell (count_of awaited.ready) (vec_len events.old + 1) (vec_capacity events.old) }
+    ensures becomes { (limit : ℕ) → IsToBeDoneBy limit took awaited.named awaited.ready →
+        Tells (λ frames told. BecomesBy limit (count_of awaited.ready) took awaited.named talk.old awaited.asked frames
+        told talk.new)
         out.old.items events.old.items out.new.items events.new.items }
-    ensures goes { 512 ≤ limit → Goes limit talk.old talk.new out.old.items out.new.items }
-    ensures rests { Rests talk.old talk.new out.old.items out.new.items }
+    ensures goes { (limit : ℕ) → IsToBeDoneBy limit took awaited.named awaited.ready → 512 ≤ limit →
+        Goes limit talk.old talk.new out.old.items out.new.items }
+    ensures rests { (limit : ℕ) → IsToBeDoneBy limit took awaited.named awaited.ready →
+        Rests talk.old talk.new out.old.items out.new.items }
 {
+    let Awaited {
+        named,
+        ready,
+        asked,
+    } = awaited;
     match took {
-        Took::Asked(session) => tell_asked(session, attach, events),
-        Took::ByLink(session, told) => match named {
-            NamedLink::Waiting(handle) => match ready {
-                Some(ready) => take_by_link(
-                    talk, alloc, limit, session, handle, told, ready, out, events,
-                ),
+        Took::Asked(session) => tell_asked(session, asked, events),
+        Took::ByLink(_session, told) => match named {
+            NamedLink::Waiting(_handle) => match ready {
+                Some(ready) => take_by_link(talk, alloc, told, ready, out, events),
                 None => unreachable!(),
             },
             NamedLink::Absent => {}
@@ -234,28 +232,27 @@ fn attach_heard(
     }
 }
 
-/// The link with this own handle took the Attach, and what that leaves to be done is done; or it refuses it, and is
-/// closed. All of it was made ready.
+/// The link for which this was made ready took the Attach, and what that leaves to be done is done; or it refuses it,
+/// and is closed.
 fn take_by_link(
     talk: &mut Conversation<Numbered<LinkEnd>>,
     alloc: Global,
-    _limit: u32,
-    session: u64,
-    handle: OutputHandle,
     told: AttachTold,
     ready: AttachReady,
     out: &mut VecDeque<SessionFrame>,
     events: &mut Vec<Event>,
 )
-    requires serves { ServesFor _limit talk.old session handle told (deque_len out.old) (deque_capacity out.old)
-        (vec_len events.old) (vec_capacity events.old) ready }
-    ensures takes { Tells (λ frames told_now. ByLink _limit ready.count talk.old session handle told frames told_now
-        talk.new)
+    requires serves { ServesItsOwn talk.old (deque_len out.old) (deque_capacity out.old) ready }
+    requires tells { HasRoomToTell ready.closing.count (vec_len events.old + 1) (vec_capacity events.old) }
+    ensures takes { (limit : ℕ) → IsToBeDone limit told ready →
+        Tells (λ frames told_now. ByLink limit ready.closing.count talk.old ready.closing.session ready.closing.handle
+        told frames told_now talk.new)
         out.old.items events.old.items out.new.items events.new.items }
-    ensures goes { 512 ≤ _limit → Goes _limit talk.old talk.new out.old.items out.new.items }
-    ensures rests { Rests talk.old talk.new out.old.items out.new.items }
+    ensures goes { (limit : ℕ) → IsToBeDone limit told ready → 512 ≤ limit →
+        Goes limit talk.old talk.new out.old.items out.new.items }
+    ensures rests { (limit : ℕ) → IsToBeDone limit told ready → Rests talk.old talk.new out.old.items out.new.items }
 {
-    let link = number_of(talk, session, handle);
+    let link = number_of(talk, ready.closing.session, ready.closing.handle);
     match outcome_of(alloc, told) {
         Ok(attaching) => {
             let Attaching {
@@ -263,75 +260,70 @@ fn take_by_link(
                 aborts: _,
             } = attaching;
             tell_attached(link, exchange, events);
-            go_on(talk, alloc, session, handle, ready, out, events);
+            go_on(talk, alloc, ready, out, events);
         }
-        Err(error) => close(talk, alloc, session, handle, ready, error, out, events),
+        Err(error) => close(talk, alloc, ready.closing, error, out, events),
     }
 }
 
-/// What the Attach leaves to be done for the link with this own handle is done, as it was made ready.
+/// What the Attach leaves to be done for the link for which this was made ready is done.
 fn go_on(
     talk: &mut Conversation<Numbered<LinkEnd>>,
     alloc: Global,
-    session: u64,
-    handle: OutputHandle,
     ready: AttachReady,
     out: &mut VecDeque<SessionFrame>,
     events: &mut Vec<Event>,
 )
-    requires there { IsSome (link_of talk.old session handle) }
-    requires sends { (s : Session) → live_at talk.old.sessions session ≡ Some s →
-        HasRoomToSend handle ready s.value (deque_len out.old) (deque_capacity out.old) }
-    requires tells { HasRoomToTell ready.count (vec_len events.old) (vec_capacity events.old) }
-    requires why { ready.why ≡ error_of not_allowed }
-    requires bare { All IsBare ready.giving.batches.items }
-    ensures does { (limit : ℕ) (aborts : List Abort) → IsMadeReady limit handle aborts ready.giving →
-        Tells (λ frames told. GoesOn (AttachedAt limit session ready.count handle (error_of not_allowed) aborts frames
-        told) talk.old session talk.new)
+    requires serves { ServesItsOwn talk.old (deque_len out.old) (deque_capacity out.old) ready }
+    requires tells { HasRoomToTell ready.closing.count (vec_len events.old) (vec_capacity events.old) }
+    ensures does { (limit : ℕ) (aborts : List Abort) → IsMadeReady limit ready.closing.handle aborts ready.giving →
+        Tells (λ frames told. GoesOn (AttachedAt limit ready.closing.session ready.closing.count ready.closing.handle
+        (error_of not_allowed) aborts None frames told) talk.old ready.closing.session talk.new)
         out.old.items events.old.items out.new.items events.new.items }
-    ensures goes { (limit : ℕ) (aborts : List Abort) → IsMadeReady limit handle aborts ready.giving → 512 ≤ limit →
-        Goes limit talk.old talk.new out.old.items out.new.items }
-    ensures rests { (limit : ℕ) (aborts : List Abort) → IsMadeReady limit handle aborts ready.giving →
+    ensures goes { (limit : ℕ) (aborts : List Abort) → IsMadeReady limit ready.closing.handle aborts ready.giving →
+        512 ≤ limit → Goes limit talk.old talk.new out.old.items out.new.items }
+    ensures rests { (limit : ℕ) (aborts : List Abort) → IsMadeReady limit ready.closing.handle aborts ready.giving →
         Rests talk.old talk.new out.old.items out.new.items }
 {
-    handle_is_read(handle);
+    handle_is_read(ready.closing.handle);
     let from = out.len();
-    let Some(live) = talk.sessions.live_mut(session) else {
+    let Some(live) = talk.sessions.live_mut(ready.closing.session) else {
         unreachable!()
     };
-    go_on_attached(live, alloc, session, handle, ready, out, events);
+    go_on_attached(live, alloc, ready, None, out, events);
     frames_are_read(out, from);
 }
 
-/// The link with this own handle, which refuses the Attach for this, is closed, as it was made ready.
+/// The link for which this was made ready, which refuses the Attach for this, is closed.
 fn close(
     talk: &mut Conversation<Numbered<LinkEnd>>,
     alloc: Global,
-    session: u64,
-    handle: OutputHandle,
-    ready: AttachReady,
+    closing: Closing,
     error: LinkError,
     out: &mut VecDeque<SessionFrame>,
     events: &mut Vec<Event>,
 )
-    requires there { IsSome (link_of talk.old session handle) }
-    requires sends { (s : Session) → live_at talk.old.sessions session ≡ Some s →
-        HasRoomToSend handle ready s.value (deque_len out.old) (deque_capacity out.old) }
-    requires tells { HasRoomToTell ready.count (vec_len events.old) (vec_capacity events.old) }
-    requires why { ready.why ≡ error_of not_allowed }
-    ensures does { Tells (λ frames told. GoesOn (ClosedFor session (LinkFault error) ready.count handle
-        (error_of not_allowed) frames told) talk.old session talk.new)
+    requires closes { ClosesIn talk.old (deque_len out.old) (deque_capacity out.old) closing }
+    requires tells { vec_len events.old + (closing.count + 1) ≤ vec_capacity events.old }
+    ensures does { Tells (λ frames told. GoesOn (ClosedFor closing.session (LinkFault error) closing.count
+        closing.handle (error_of not_allowed) frames told) talk.old closing.session talk.new)
         out.old.items events.old.items out.new.items events.new.items }
     ensures goes { (limit : ℕ) → 512 ≤ limit → Goes limit talk.old talk.new out.old.items out.new.items }
     ensures rests { Rests talk.old talk.new out.old.items out.new.items }
 {
-    handle_is_read(handle);
+    handle_is_read(closing.handle);
     let from = out.len();
-    let Some(live) = talk.sessions.live_mut(session) else {
+    let Some(live) = talk.sessions.live_mut(closing.session) else {
         unreachable!()
     };
-    let error = EndpointError::Link(error);
-    refuse_attach(live, alloc, session, handle, ready, error, out, events);
+    close_for(
+        live,
+        alloc,
+        closing,
+        EndpointError::Link(error),
+        out,
+        events,
+    );
     frames_are_read(out, from);
 }
 

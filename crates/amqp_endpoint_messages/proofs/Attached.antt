@@ -1,10 +1,11 @@
 -- What a link that took the peer's Attach does: it tells, gives deliveries up, and is closed where it can't.
 use Rattle.std.proofs.Common.{◌≡◌, ℕ, Bool, true, false, List, [], ◌++◌, Option, Some, None, refl, sym, ap, subst, ◌∙◌}
 use Rattle.std.proofs.Common.{append-nil, append_assoc}
-use Rattle.std.specs.Prelude.{IsSome}
+use Rattle.std.specs.Prelude.{IsSome, option_to_list}
 use Rattle.std.proofs.lemmas.List.Elements.{All-nil}
 use Rattle.amqp_session_types.specs.declared.error.Error.{Error}
 use Rattle.amqp_session_types.specs.declared.handles.OutputHandle.{OutputHandle}
+use Rattle.amqp_session_performatives.specs.declared.link_flow.LinkFlow.{LinkFlow}
 use Rattle.amqp_session_performatives.specs.declared.session_frame.SessionFrame.{SessionFrame}
 use Rattle.amqp_session_core.specs.Batch.{Transfers}
 use Rattle.amqp_session_core.specs.State.{link_at}
@@ -14,7 +15,8 @@ use Rattle.amqp_endpoint_links.specs.declared.numbered.Numbered.{Numbered}
 use Rattle.amqp_endpoint_model.specs.declared.error.EndpointError.{EndpointError}
 use Rattle.amqp_endpoint_model.specs.declared.event.Event.{Event}
 use Rattle.amqp_endpoint_attached.specs.Detaching.{DetachGiven, is_there}
-use Rattle.amqp_endpoint_attached.specs.Linked.{Linked, LinksIn, end_at, end_in}
+use Rattle.amqp_endpoint_attached.specs.Kept.{Replies, TakesFlow, TakesKept}
+use Rattle.amqp_endpoint_attached.specs.Linked.{Linked, LinksIn, end_at, end_in, gives}
 use Rattle.amqp_endpoint_messages.specs.All.{AreCopies, TellsFirst, first_told}
 use Rattle.amqp_endpoint_messages.specs.GivingUp.{ClosesIf, DoesAttached, DoesClosedFor, GivesUp, HandsEach}
 use Rattle.amqp_endpoint_messages.specs.GivingUp.{refused_told, stuck_by}
@@ -93,8 +95,55 @@ closed-for session error count handle why link old mid new out out_new events fa
           ∙ append_assoc events (refused_told session link.number error) rest;
     }
 
+-- a reply, behind frames that were handed out before it
+record OwnReply (handle : OutputHandle) (reply : Option LinkFlow) (mid : LinksIn) (out : List SessionFrame)
+    (new : LinksIn) (out_new : List SessionFrame) : Type 0 where
+  frames : List SessionFrame
+  queued : out_new ≡ out ++ frames
+  replies : Replies gives handle reply mid [] new frames
+
+own-reply : (handle : OutputHandle) (reply : Option LinkFlow) (mid new : LinksIn) (out out_new : List SessionFrame)
+    → Replies gives handle reply mid out new out_new → OwnReply handle reply mid out new out_new
+own-reply handle None mid new out out_new (same, silent) =
+    record { frames = []; queued = silent ∙ sym (append-nil out); replies = (same, refl) }
+own-reply handle (Some flow) mid new out out_new r =
+    record {
+      frames = option_to_list r.frame;
+      queued = r.handed;
+      replies = record { frame = r.frame; sent = r.sent; handed = refl };
+    }
+
+-- so it is with what was kept of a Flow
+record OwnKept (handle : OutputHandle) (kept : Option LinkFlow) (old : Linked) (out : List SessionFrame)
+    (new : Linked) (out_new : List SessionFrame) : Type 0 where
+  frames : List SessionFrame
+  queued : out_new ≡ out ++ frames
+  takes : TakesKept handle kept old [] new frames
+
+own-kept : (handle : OutputHandle) (kept : Option LinkFlow) (old new : Linked) (out out_new : List SessionFrame)
+    → TakesKept handle kept old out new out_new → OwnKept handle kept old out new out_new
+own-kept handle None old new out out_new t =
+    record {
+      frames = [];
+      queued = t.takes.1 ∙ sym (append-nil out);
+      takes = record { takes = (t.takes.0, refl); rest = t.rest };
+    }
+own-kept handle (Some flow) old new out out_new t =
+    let f : TakesFlow handle flow old.session out new.session out_new = t.takes in
+    let r : OwnReply handle f.reply f.mid out new.session out_new =
+    own-reply handle f.reply f.mid new.session out out_new f.replies in
+    record {
+      frames = r.frames;
+      queued = r.queued;
+      takes =
+          record {
+            takes = record { reply = f.reply; mid = f.mid; takes = f.takes; replies = r.replies };
+            rest = t.rest;
+          };
+    }
+
 module _ (limit session count : ℕ) (handle : OutputHandle) (why : Error) (aborts : List Abort)
-    (batches : List Transfers) (fit : Bool) (planned : ArePlanned limit handle aborts batches fit)
+    (kept : Option LinkFlow) (batches : List Transfers) (fit : Bool) (planned : ArePlanned limit handle aborts batches fit)
     (old told given : Linked) (out out_up : List SessionFrame) (events events_told : List Event) (stopped : Bool)
     (tells : TellsFirst count handle (link_at old.session handle.0) old told)
     (told_is : events_told ≡ events ++ first_told count None (link_at old.session handle.0))
@@ -119,12 +168,14 @@ module _ (limit session count : ℕ) (handle : OutputHandle) (why : Error) (abor
         fit = planned.fit;
       }
 
-  -- all deliveries are given up
-  pub attached : stuck ≡ None
-      → DoesAttached limit session count handle why aborts old out events given out_up events_told
-  attached none =
+  -- all deliveries are given up, and what was kept of a Flow is taken
+  pub attached : stuck ≡ None → (new : Linked) (out_new : List SessionFrame)
+      → TakesKept handle kept given out_up new out_new
+      → DoesAttached limit session count handle why aborts kept old out events new out_new events_told
+  attached none new out_new flows =
+      let f : OwnKept handle kept given out_up new out_new = own-kept handle kept given new out_up out_new flows in
       record {
-        frames = ups.up;
+        frames = ups.up ++ f.frames;
         events = outcomes;
         does =
             record {
@@ -136,13 +187,16 @@ module _ (limit session count : ℕ) (handle : OutputHandle) (why : Error) (abor
               gives_up =
                   subst (λ (o : Option EndpointError). GivesUp limit handle aborts told [] o given ups.up) none
                   gives-up;
-              down = [];
+              down = f.frames;
               failed = [];
-              ends = (refl, refl, refl);
-              frames_are = sym (append-nil ups.up);
+              ends = (f.takes, refl);
+              frames_are = refl;
               events_are = sym (append-nil outcomes);
             };
-        queued = ups.queued;
+        queued =
+            f.queued
+            ∙ ap (λ (l : List SessionFrame). l ++ f.frames) ups.queued
+            ∙ append_assoc out ups.up f.frames;
         are_told = told_is;
       }
 
@@ -150,7 +204,7 @@ module _ (limit session count : ℕ) (handle : OutputHandle) (why : Error) (abor
   pub attached-not : (error : EndpointError) (new : Linked) (out_new : List SessionFrame) (events_new : List Event)
       → stuck ≡ Some error
       → DoesClosedFor session error count handle why given out_up events_told new out_new events_new
-      → DoesAttached limit session count handle why aborts old out events new out_new events_new
+      → DoesAttached limit session count handle why aborts kept old out events new out_new events_new
   attached-not error new out_new events_new some closed =
       record {
         frames = ups.up ++ closed.frames;

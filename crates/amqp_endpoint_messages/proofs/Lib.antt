@@ -22,5 +22,7 @@ pub mod Handing
 pub mod Sent
 pub mod AbortsFit
 pub mod Planned
+pub mod Ready
 pub mod Handed
 pub mod Attached
+pub mod AttachDone

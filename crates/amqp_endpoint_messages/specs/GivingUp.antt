@@ -7,12 +7,14 @@ use Rattle.amqp_session_types.specs.declared.error.Error.{Error}
 use Rattle.amqp_session_types.specs.declared.handles.OutputHandle.{OutputHandle}
 use Rattle.amqp_session_performatives.specs.declared.session_frame.SessionFrame.{SessionFrame}
 use Rattle.amqp_session_performatives.specs.declared.attach.Attach.{Attach}
+use Rattle.amqp_session_performatives.specs.declared.link_flow.LinkFlow.{LinkFlow}
 use Rattle.amqp_session_performatives.specs.declared.session_frame.SessionFrameBody.TheVariants as body
 use Rattle.amqp_session_performatives.specs.declared.transfer.Transfer.{Transfer}
 use Rattle.amqp_session_outgoing.specs.History.{HasFreeNumbers}
 use Rattle.amqp_session_core.specs.Batch.{Transfers, first_of}
 use Rattle.amqp_session_core.specs.State.{link_at}
 use Rattle.amqp_session_core.specs.Told.{TransfersSent}
+use Rattle.amqp_link_base.specs.declared.exchange.AttachExchange.{AttachExchange}
 use Rattle.amqp_link_sender.specs.Attaching.{abort_transfer}
 use Rattle.amqp_link_unsettled.specs.declared.exchanging.Abort.{Abort}
 use Rattle.amqp_endpoint_fitting.specs.Fits.{UnitFits}
@@ -28,6 +30,7 @@ use Rattle.amqp_endpoint_model.specs.declared.event.Event.{Event}
 use Rattle.amqp_endpoint_model.specs.declared.event.Event.TheVariants as event
 use Rattle.amqp_endpoint_model.specs.State.{fits, frame_of}
 use Rattle.amqp_endpoint_attached.specs.Detaching.{DetachGiven, is_there}
+use Rattle.amqp_endpoint_attached.specs.Kept.{TakesKept}
 use Rattle.amqp_endpoint_attached.specs.Linked.{Linked, LinksIn, end_at, gives}
 use Rattle.amqp_endpoint_messages.specs.All.{TellsFirst, first_told}
 use Rattle.amqp_endpoint_messages.specs.Sending.{on_handle}
@@ -110,7 +113,11 @@ ClosesIf false why old handle frames new = (new ≡ old) × (frames ≡ [])
 abbrev pub Closes : Option Error → OutputHandle → List SessionFrame → Linked → Linked → Type 0
 Closes why handle frames old new = ClosesIf (is_there (end_at old handle)) why old handle frames new
 
--- That the link with this number is closed here is told, with why.
+-- That the link with this number is attached at both ends is told, with what the two Attach leave to be done.
+abbrev pub attached_told : ℕ → AttachExchange → List Event
+attached_told link exchange = event.Attached (record { link = link; exchange = exchange }) ∷ []
+
+-- That it is closed here is told, with why.
 abbrev pub refused_told : ℕ → ℕ → EndpointError → List Event
 refused_told session link error =
     event.Refused (record { session = session; link = Some link; error = error }) ∷ []
@@ -126,18 +133,20 @@ pub record ClosedFor (session : ℕ) (error : EndpointError) (count : ℕ) (hand
   pub told : events ≡ refused_told session link.number error
       ++ first_told count None (link_at mid.session handle.0)
 
--- It is closed where it couldn't give all deliveries up.
-abbrev pub EndsIf : Option EndpointError → (session count : ℕ) → OutputHandle → Error → List SessionFrame → List Event
-    → Linked → Linked → Type 0
-EndsIf None session count handle why frames events old new = (frames ≡ []) × (events ≡ []) × (new ≡ old)
-EndsIf (Some error) session count handle why frames events old new =
+-- It takes what was kept of a Flow for it, if one was, and replies to it where that wants it; or it is closed where it
+-- couldn't give all deliveries up.
+abbrev pub EndsIf : Option EndpointError → (session count : ℕ) → OutputHandle → Error → Option LinkFlow
+    → List SessionFrame → List Event → Linked → Linked → Type 0
+EndsIf None session count handle why kept frames events old new =
+    TakesKept handle kept old [] new frames × (events ≡ [])
+EndsIf (Some error) session count handle why kept frames events old new =
     ClosedFor session error count handle why frames events old new
 
 -- A link that took the peer's Attach, in the session with this number: it tells the outcomes of so many of its messages
 -- that end by what the peer lists, if as many do; then it gives up the deliveries that are to be given up, and is
--- closed where it can't.
+-- closed where it can't; else it takes what was kept of a Flow.
 pub record AttachedAt (limit session count : ℕ) (handle : OutputHandle) (why : Error) (aborts : List Abort)
-    (frames : List SessionFrame) (events : List Event) (old new : Linked) : Type 0 where
+    (kept : Option LinkFlow) (frames : List SessionFrame) (events : List Event) (old new : Linked) : Type 0 where
   pub told : Linked
   pub tells : TellsFirst count handle (link_at old.session handle.0) old told
   pub stuck : Option EndpointError
@@ -146,17 +155,17 @@ pub record AttachedAt (limit session count : ℕ) (handle : OutputHandle) (why :
   pub gives_up : GivesUp limit handle aborts told [] stuck given up
   pub down : List SessionFrame
   pub failed : List Event
-  pub ends : EndsIf stuck session count handle why down failed given new
+  pub ends : EndsIf stuck session count handle why kept down failed given new
   pub frames_are : frames ≡ up ++ down
   pub events_are : events ≡ first_told count None (link_at old.session handle.0) ++ failed
 
 -- These frames are handed out behind others, and these events told.
 pub record DoesAttached (limit session count : ℕ) (handle : OutputHandle) (why : Error) (aborts : List Abort)
-    (old : Linked) (out : List SessionFrame) (told : List Event) (new : Linked) (out_new : List SessionFrame)
-    (told_new : List Event) : Type 0 where
+    (kept : Option LinkFlow) (old : Linked) (out : List SessionFrame) (told : List Event) (new : Linked)
+    (out_new : List SessionFrame) (told_new : List Event) : Type 0 where
   pub frames : List SessionFrame
   pub events : List Event
-  pub does : AttachedAt limit session count handle why aborts frames events old new
+  pub does : AttachedAt limit session count handle why aborts kept frames events old new
   pub queued : out_new ≡ out ++ frames
   pub are_told : told_new ≡ told ++ events
 

@@ -2,7 +2,6 @@
 use Rattle.std.specs.Prelude.{◌≡◌, ◌+◌, ◌++◌, ◌≤◌, ℕ, List, Bool, true, false, Option, Some, None, length, map}
 use Rattle.amqp_session_types.specs.declared.error.Error.{Error}
 use Rattle.amqp_session_types.specs.declared.handles.OutputHandle.{OutputHandle}
-use Rattle.amqp_session_performatives.specs.declared.attach.Attach.{Attach}
 use Rattle.amqp_session_performatives.specs.declared.session_frame.SessionFrame.{SessionFrame}
 use Rattle.amqp_session_outgoing.specs.Queues.{frames_in, room_behind}
 use Rattle.amqp_session_core.specs.Batch.{Transfers}
@@ -10,11 +9,11 @@ use Rattle.amqp_session_core.specs.Steps.{Reserves, Step}
 use Rattle.amqp_link_unsettled.specs.declared.exchanging.Abort.{Abort}
 use Rattle.amqp_endpoint_model.specs.State.{error_of}
 use Rattle.amqp_endpoint_model.specs.Step.{not_allowed}
-use Rattle.amqp_endpoint_attached.specs.Linked.{Linked, LinksIn, end_at, gives}
-use Rattle.amqp_endpoint_messages.specs.All.{open_count}
+use Rattle.amqp_endpoint_attached.specs.Linked.{Linked, LinksIn, gives}
 use Rattle.amqp_endpoint_messages.specs.GivingUp.{Closes, EachFits, abort_fits, all_fit, batch_of, fitting}
 use Rattle.amqp_endpoint_messages.specs.GivingUp.{planned_at}
 use Rattle.amqp_endpoint_messages.specs.declared.giving_up.AttachReady.{AttachReady}
+use Rattle.amqp_endpoint_messages.specs.declared.giving_up.Closing.{Closing}
 use Rattle.amqp_endpoint_messages.specs.declared.giving_up.GivingUp.{GivingUp}
 
 -- The transfers of these deliveries before the first that the peer takes no frame for, and whether it takes one for
@@ -33,20 +32,33 @@ abbrev pub IsPlanned : ℕ → OutputHandle → Abort → Option Transfers → T
 IsPlanned limit handle abort None = abort_fits limit handle abort ≡ false
 IsPlanned limit handle abort (Some batch) = (batch ≡ batch_of handle abort) × (abort_fits limit handle abort ≡ true)
 
--- For the link with this own handle: what it gives up by the peer's Attach, how many of its messages are open, and what
--- its Detach says where it is closed.
-pub record IsReadyFor (limit : ℕ) (s : Linked) (handle : OutputHandle) (attach : Attach) (ready : AttachReady) : Type 0
-  where
-    pub giving : IsMadeReady limit handle (planned_at (end_at s handle) attach) ready.giving
-    pub count : ready.count ≡ open_count (end_at s handle)
-    pub why : ready.why ≡ error_of not_allowed
+-- There is a place for the Detach of a link that is closed, also behind what comes to wait later.
+pub record HasPlaceToClose (s : Linked) (closing : Closing) : Type 0 where
+  pub some : 1 ≤ closing.place
+  pub serves : room_behind closing.handle.0 1 s.session.outgoing.queues ≤ closing.place
+
+-- That with which the link is closed that has this own handle in the session with this number, of whose messages so
+-- many are open: its Detach says that it isn't allowed (2.8.15).
+pub record IsClosing (s : Linked) (number : ℕ) (own : OutputHandle) (opened : ℕ) (closing : Closing) : Type 0 where
+  pub is : closing ≡ record {
+    session = number;
+    handle = own;
+    count = opened;
+    why = error_of not_allowed;
+    place = closing.place;
+  }
+  pub place : HasPlaceToClose s closing
+
+-- The deliveries that the link gives up, with what it is closed with.
+pub record IsReadyWith (limit : ℕ) (aborts : List Abort) (with : Closing) (ready : AttachReady) : Type 0 where
+  pub closing : ready.closing ≡ with
+  pub giving : IsMadeReady limit with.handle aborts ready.giving
 
 -- There is room for what is handed out: in the session, among what is handed out, and for the Detach.
-pub record HasRoomToSend (handle : OutputHandle) (ready : AttachReady) (s : Linked) (len capacity : ℕ) : Type 0 where
+pub record HasRoomToSend (ready : AttachReady) (s : Linked) (len capacity : ℕ) : Type 0 where
   pub room : length ready.giving.batches.items ≤ s.session.outgoing.room
   pub spare : len + (frames_in s.session.outgoing.queues + s.session.outgoing.room) + 1 ≤ capacity
-  pub some : 1 ≤ ready.place
-  pub place : room_behind handle.0 1 s.session.outgoing.queues ≤ ready.place
+  pub place : HasPlaceToClose s ready.closing
 
 -- And for what is told: the outcomes of so many messages, then one event more, and once more so many outcomes.
 abbrev pub HasRoomToTell : ℕ → ℕ → ℕ → Type 0

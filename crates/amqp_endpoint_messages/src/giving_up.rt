@@ -15,13 +15,14 @@ ghost use Rattle.amqp_endpoint_attached.specs.Linked.{end_at, end_in};
 ghost use Rattle.amqp_endpoint_messages.specs.GivingUp.{DoesAttached, DoesClosedFor, HandsEach, HandsOne, IsBare};
 ghost use Rattle.amqp_endpoint_messages.specs.GivingUp.{abort_on, given_up_by, planned_at, stuck_by};
 ghost use Rattle.amqp_endpoint_messages.specs.GivingUp.{transfer_fits};
-ghost use Rattle.amqp_endpoint_messages.specs.MadeReady.{ClosesOut, HasRoomToSend, HasRoomToTell, IsMadeReady};
-ghost use Rattle.amqp_endpoint_messages.specs.MadeReady.{IsPlanned};
-ghost use Rattle.amqp_endpoint_messages.specs.MadeReady.{IsReadyFor, MadeRoom, MadeRoomIn};
+ghost use Rattle.amqp_endpoint_messages.specs.MadeReady.{ClosesOut, HasPlaceToClose, HasRoomToSend, HasRoomToTell};
+ghost use Rattle.amqp_endpoint_messages.specs.MadeReady.{IsClosing, IsMadeReady, IsPlanned, IsReadyWith, MadeRoom};
+ghost use Rattle.amqp_endpoint_messages.specs.MadeReady.{MadeRoomIn};
+ghost use Rattle.amqp_link.specs.GoingOn.{aborts_of};
 
 use crate::cutting::on_handle;
-use crate::ending::{open_in, tell_first};
-use amqp_endpoint_attached::{LinkSession, detach_placed};
+use crate::ending::tell_first;
+use amqp_endpoint_attached::{LinkSession, detach_placed, take_kept};
 use amqp_endpoint_links::Numbered;
 use amqp_endpoint_model::{EndpointError, Event, Refused};
 use amqp_link::{LinkEnd, PreparedAttach};
@@ -30,7 +31,7 @@ use amqp_link_types::LinkError;
 use amqp_link_unsettled::{Abort, fits_text};
 use amqp_session_core::{Batch, BehindFrame, Session};
 use amqp_session_outgoing::Place;
-use amqp_session_performatives::{Attach, SessionFrame, Transfer};
+use amqp_session_performatives::{Attach, LinkFlow, SessionFrame, Transfer};
 use amqp_session_types::{OutputHandle, definitions};
 use bytes::Bytes;
 use serde_amqp_types::Symbol;
@@ -41,64 +42,138 @@ use std::collections::VecDeque;
 #[derive(Drop)]
 pub struct GivingUp {
     /// A batch for each before the first of which the peer takes no frame, in their order.
-    pub(crate) batches: VecDeque<Batch>,
+    pub batches: VecDeque<Batch>,
     /// Whether it takes one for each.
-    pub(crate) all_fit: bool,
+    pub all_fit: bool,
 }
 
-/// What is made ready for a link that waits for the peer's Attach, before it takes it.
+/// What a link is closed with where it can't stay attached, made ready while it can.
+#[derive(Drop)]
+pub struct Closing {
+    /// The number of its session.
+    pub session: u64,
+    /// Its own handle there.
+    pub handle: OutputHandle,
+    /// How many of its messages are open.
+    pub count: usize,
+    /// What its Detach says (part 2, 2.8.15).
+    pub why: definitions::Error,
+    /// Room for that Detach behind what the link has waiting then.
+    pub place: Place<BehindFrame>,
+}
+
+/// What is made ready for a link before it takes the peer's Attach.
 #[derive(Drop)]
 pub struct AttachReady {
     /// The deliveries that it gives up.
-    pub(crate) giving: GivingUp,
-    /// How many of its messages are open.
-    pub(crate) count: usize,
-    /// Why it is closed, where it is, as its Detach says it (part 2, 2.8.15).
-    pub(crate) why: definitions::Error,
-    /// Room for that Detach behind what the link has waiting then.
-    pub(crate) place: Place<BehindFrame>,
+    pub giving: GivingUp,
+    /// What it is closed with where it refuses the Attach, or can't give all of them up.
+    pub closing: Closing,
 }
 
-/// What the peer's Attach leaves to be done for the link with this own handle is made ready, before the link takes it,
-/// and room for all of it: the transfers that give deliveries up, the events, `Attached` or `Refused` among them, and
-/// the Detach that closes the link where it refuses the Attach, or can't give all deliveries up. Of the session nothing
-/// changes but the room for transfers.
+/// What the link is closed with that has this own handle in the session with this number, or is to get it, and of whose
+/// messages so many are open. It is refused where there is no memory.
+pub fn make_closing(
+    session: &LinkSession,
+    alloc: Global,
+    number: u64,
+    handle: OutputHandle,
+    count: usize,
+) -> Result<Closing, AllocError>
+    ensures { IfOk result (IsClosing session.now number handle count) }
+{
+    let why = not_allowed(alloc)?;
+    match session.session.place_behind_more(alloc, handle, 1) {
+        Ok(place) => Ok(Closing {
+            session: number,
+            handle,
+            count,
+            why,
+            place,
+        }),
+        Err(_) => Err(AllocError),
+    }
+}
+
+/// Room for two events, and for twice so many more.
+pub fn make_room_to_tell(events: &mut Vec<Event>, count: usize) -> Result<(), AllocError>
+    ensures room { OnOk result (HasRoomToTell count (vec_len events.new + 1) (vec_capacity events.new)) }
+    ensures same { events.new.items ≡ events.old.items }
+{
+    let failed = count.checked_add(2).ok_or(AllocError)?;
+    events.reserve(count.checked_add(failed).ok_or(AllocError)?)
+}
+
+/// What the peer's Attach leaves to be done for the link that waits for it is made ready, before the link takes it, with
+/// what it is closed with: the transfers that give deliveries up, and room for them and for its Detach. Of the session
+/// nothing changes but the room for transfers.
 ///
 /// It is refused where there is no memory, and nothing changes then.
 pub fn make_attach_ready(
     session: &mut LinkSession,
     alloc: Global,
     limit: u32,
-    handle: OutputHandle,
+    closing: Closing,
     attach: &Attach,
     out: &mut VecDeque<SessionFrame>,
-    events: &mut Vec<Event>,
 ) -> Result<AttachReady, AllocError>
-    ensures ready { IfOk result (IsReadyFor limit session.old handle attach.now) }
+    requires { HasPlaceToClose session.old closing }
+    ensures ready { IfOk result (IsReadyWith limit (planned_at (end_at session.old closing.handle) attach.now) closing) }
     ensures sends { IfOk result (λ ready.
-        HasRoomToSend handle ready session.new (deque_len out.new) (deque_capacity out.new)) }
-    ensures tells { IfOk result (λ ready. HasRoomToTell ready.count (vec_len events.new + 1)
-        (vec_capacity events.new)) }
+        HasRoomToSend ready session.new (deque_len out.new) (deque_capacity out.new)) }
     ensures bare { IfOk result (λ ready. All IsBare ready.giving.batches.items) }
     ensures made { OnOk result (MadeRoom session.old session.new) }
     ensures kept { OnErr result (session.new ≡ session.old) }
     ensures out { out.new.items ≡ out.old.items }
-    ensures events { events.new.items ≡ events.old.items }
 {
-    let giving = giving_up_in(&session.session, alloc, limit, handle, attach)?;
-    let count = open_in(session, handle);
-    let why = not_allowed(alloc)?;
-    let Ok(place) = session.session.place_behind_more(alloc, handle, 1) else {
-        return Err(AllocError);
-    };
-    make_room_to_tell(events, count)?;
+    let giving = giving_up_in(&session.session, alloc, limit, closing.handle, attach)?;
+    make_room_for(session, giving, closing, out)
+}
+
+/// What is left to be done for a link that answers one that the peer asks for is made ready, as `make_attach_ready` does,
+/// before it is in the session, where the peer's Attach makes this of it; and there is room for one frame more, its own
+/// Attach, before the others. Of the session nothing changes but the room for transfers.
+///
+/// It is refused where there is no memory, and nothing changes then.
+pub fn make_answer_ready(
+    session: &mut LinkSession,
+    alloc: Global,
+    limit: u32,
+    closing: Closing,
+    taken: &PreparedAttach,
+    out: &mut VecDeque<SessionFrame>,
+) -> Result<AttachReady, AllocError>
+    requires { HasPlaceToClose session.old closing }
+    ensures ready { IfOk result (IsReadyWith limit (aborts_of taken.now) closing) }
+    ensures sends { IfOk result (λ ready.
+        HasRoomToSend ready session.new (deque_len out.new + 1) (deque_capacity out.new)) }
+    ensures bare { IfOk result (λ ready. All IsBare ready.giving.batches.items) }
+    ensures made { OnOk result (MadeRoom session.old session.new) }
+    ensures kept { OnErr result (session.new ≡ session.old) }
+    ensures out { out.new.items ≡ out.old.items }
+{
+    let giving = make_giving_up(alloc, limit, closing.handle, taken.aborts())?;
+    make_room_for(session, giving, closing, out)
+}
+
+/// Room for these transfers of a link, with one frame before them, and for the Detach with which it is closed. It is
+/// refused where there is no memory.
+fn make_room_for(
+    session: &mut LinkSession,
+    giving: GivingUp,
+    closing: Closing,
+    out: &mut VecDeque<SessionFrame>,
+) -> Result<AttachReady, AllocError>
+    requires { HasPlaceToClose session.old closing }
+    ensures ready { IfOk result (λ ready. ready ≡ record { giving = giving; closing = closing }) }
+    ensures sends { IfOk result (λ ready.
+        HasRoomToSend ready session.new (deque_len out.new + 1) (deque_capacity out.new)) }
+    ensures made { OnOk result (MadeRoom session.old session.new) }
+    ensures kept { OnErr result (session.new ≡ session.old) }
+    ensures out { out.new.items ≡ out.old.items }
+{
     make_room_to_send(&mut session.session, out, giving.batches.len())?;
-    Ok(AttachReady {
-        giving,
-        count,
-        why,
-        place,
-    })
+    Ok(AttachReady { giving, closing })
 }
 
 /// The deliveries that the link with this own handle gives up by the peer's Attach, made ready. It is refused where
@@ -240,16 +315,7 @@ fn not_allowed(alloc: Global) -> Result<definitions::Error, AllocError>
     })
 }
 
-/// Room for two events, and for twice so many more.
-fn make_room_to_tell(events: &mut Vec<Event>, count: usize) -> Result<(), AllocError>
-    ensures room { OnOk result (vec_len events.new + (count + (count + 2)) ≤ vec_capacity events.new) }
-    ensures same { events.new.items ≡ events.old.items }
-{
-    let failed = count.checked_add(2).ok_or(AllocError)?;
-    events.reserve(count.checked_add(failed).ok_or(AllocError)?)
-}
-
-/// Room for so many transfers in the session, and for one frame behind them.
+/// Room for so many transfers in the session, and for two frames beside them.
 fn make_room_to_send(
     session: &mut Session<Numbered<LinkEnd>>,
     out: &mut VecDeque<SessionFrame>,
@@ -257,100 +323,47 @@ fn make_room_to_send(
 ) -> Result<(), AllocError>
     ensures room { OnOk result (count ≤ session.new.outgoing.room) }
     ensures spare { OnOk result (deque_len out.new + (frames_in session.new.outgoing.queues
-        + session.new.outgoing.room) + 1 ≤ deque_capacity out.new) }
+        + session.new.outgoing.room) + 2 ≤ deque_capacity out.new) }
     ensures made { OnOk result (MadeRoomIn session.old session.new) }
     ensures kept { OnErr result (session.new ≡ session.old) }
     ensures out { out.new.items ≡ out.old.items }
 {
-    match session.reserve_transfers(out, count, 1) {
+    match session.reserve_transfers(out, count, 2) {
         Ok(()) => Ok(()),
         Err(_) => Err(AllocError),
     }
 }
 
-/// The link with this own handle in the session with this number took the peer's Attach: it tells the outcomes of its
-/// messages that end by what the peer lists, and then it gives up the deliveries that are to be given up, in their
-/// order. Where the peer takes no frame for one of them, or its number is in use, the link is closed, and `Refused` is
-/// told with `FrameTooLarge` or `NumberInUse`, and behind that the outcomes of its messages that end by it (part 2,
-/// 2.6.6, 2.6.12, 2.6.13). All of it was made ready, and it takes no memory.
+/// The link for which this was made ready took the peer's Attach: it tells the outcomes of its messages that end by what
+/// the peer lists, and then it gives up the deliveries that are to be given up, in their order. Where the peer takes no
+/// frame for one of them, or its number is in use, the link is closed, as `close_for` does, with `FrameTooLarge` or
+/// `NumberInUse` (part 2, 2.6.12, 2.6.13). Else it takes what was kept of a Flow, where the link answers one that the
+/// peer asked for, and replies to it where that wants it (part 2, 2.7.4). It takes no memory.
 pub fn go_on_attached(
     session: &mut LinkSession,
     alloc: Global,
-    number: u64,
-    handle: OutputHandle,
     ready: AttachReady,
+    kept: Option<LinkFlow>,
     out: &mut VecDeque<SessionFrame>,
     events: &mut Vec<Event>,
 )
-    requires there { IsSome (end_at session.old handle) }
-    requires sends { HasRoomToSend handle ready session.old (deque_len out.old) (deque_capacity out.old) }
-    requires tells { HasRoomToTell ready.count (vec_len events.old) (vec_capacity events.old) }
+    requires there { IsSome (end_at session.old ready.closing.handle) }
+    requires sends { HasRoomToSend ready session.old (deque_len out.old) (deque_capacity out.old) }
+    requires tells { HasRoomToTell ready.closing.count (vec_len events.old) (vec_capacity events.old) }
     requires bare { All IsBare ready.giving.batches.items }
-    ensures { (limit : ℕ) (aborts : List Abort) → IsMadeReady limit handle aborts ready.giving →
-        DoesAttached limit number ready.count handle ready.why aborts session.old out.old.items events.old.items
-        session.new out.new.items events.new.items }
+    ensures { (limit : ℕ) (aborts : List Abort) → IsMadeReady limit ready.closing.handle aborts ready.giving →
+        DoesAttached limit ready.closing.session ready.closing.count ready.closing.handle ready.closing.why aborts kept
+        session.old out.old.items events.old.items session.new out.new.items events.new.items }
 {
-    let AttachReady {
-        giving,
-        count,
-        why,
-        place,
-    } = ready;
+    let AttachReady { giving, closing } = ready;
     let GivingUp { batches, all_fit } = giving;
-    tell_first(session, handle, count, Vec::new(alloc), events);
+    let handle = closing.handle;
+    tell_first(session, handle, closing.count, Vec::new(alloc), events);
     let stopped = give_up(&mut session.session, alloc, handle, batches, out);
-    let Some(error) = stuck_by(stopped, all_fit) else {
-        return;
-    };
-    close_for(
-        session,
-        alloc,
-        number,
-        handle,
-        (place, why),
-        error,
-        count,
-        out,
-        events,
-    );
-}
-
-/// The link with this own handle in the session with this number refuses the peer's Attach for this: it is closed, and
-/// `Refused` is told, and behind that the outcomes of its messages that end by it (part 2, 2.6.3, 2.6.6). All of it was
-/// made ready, and it takes no memory.
-pub fn refuse_attach(
-    session: &mut LinkSession,
-    alloc: Global,
-    number: u64,
-    handle: OutputHandle,
-    ready: AttachReady,
-    error: EndpointError,
-    out: &mut VecDeque<SessionFrame>,
-    events: &mut Vec<Event>,
-)
-    requires there { IsSome (end_at session.old handle) }
-    requires sends { HasRoomToSend handle ready session.old (deque_len out.old) (deque_capacity out.old) }
-    requires tells { HasRoomToTell ready.count (vec_len events.old) (vec_capacity events.old) }
-    ensures { DoesClosedFor number error ready.count handle ready.why session.old out.old.items events.old.items
-        session.new out.new.items events.new.items }
-{
-    let AttachReady {
-        giving: _,
-        count,
-        why,
-        place,
-    } = ready;
-    close_for(
-        session,
-        alloc,
-        number,
-        handle,
-        (place, why),
-        error,
-        count,
-        out,
-        events,
-    );
+    match stuck_by(stopped, all_fit) {
+        Some(error) => close_for(session, alloc, closing, error, out, events),
+        None => take_kept(session, handle, kept, closing.place, out),
+    }
 }
 
 /// A session takes the transfers of the link with this own handle that give deliveries up, in their order. It stops at
@@ -425,32 +438,35 @@ fn stuck_by(stopped: bool, all_fit: bool) -> Option<EndpointError>
     Some(EndpointError::FrameTooLarge)
 }
 
-/// The link with this own handle in the session with this number is closed for this, where it is attached, with what
-/// its Detach says and room for it; `Refused` is told, and behind that the outcomes of so many of its messages that end
-/// by it, if as many do. It takes no memory.
-fn close_for(
+/// The link for which this was made ready is closed for this, where it is attached; `Refused` is told, and behind that the
+/// outcomes of so many of its messages that end by it, if as many do (part 2, 2.6.6). It takes no memory.
+pub fn close_for(
     session: &mut LinkSession,
     alloc: Global,
-    number: u64,
-    handle: OutputHandle,
-    detach: (Place<BehindFrame>, definitions::Error),
+    closing: Closing,
     error: EndpointError,
-    count: usize,
     out: &mut VecDeque<SessionFrame>,
     events: &mut Vec<Event>,
 )
-    requires there { IsSome (end_at session.old handle) }
-    requires place { room_behind handle.0 1 session.old.session.outgoing.queues ≤ detach.0 }
+    requires there { IsSome (end_at session.old closing.handle) }
+    requires place { room_behind closing.handle.0 1 session.old.session.outgoing.queues ≤ closing.place }
     requires spare { deque_len out.old < deque_capacity out.old }
-    requires tells { vec_len events.old + (count + 1) ≤ vec_capacity events.old }
-    ensures { DoesClosedFor number error count handle detach.1 session.old out.old.items events.old.items session.new
-        out.new.items events.new.items }
+    requires tells { vec_len events.old + (closing.count + 1) ≤ vec_capacity events.old }
+    ensures { DoesClosedFor closing.session error closing.count closing.handle closing.why session.old out.old.items
+        events.old.items session.new out.new.items events.new.items }
 {
+    let Closing {
+        session: number,
+        handle,
+        count,
+        why,
+        place,
+    } = closing;
     let Some(there) = session.session.link(handle) else {
         unreachable!()
     };
     let link = there.number;
-    close_where(session, handle, detach, out);
+    close_where(session, handle, (place, why), out);
     events.push_reserved(Event::Refused(Refused {
         session: number,
         link: Some(link),

@@ -28,7 +28,10 @@ mod sending;
 pub use disposing_all::dispose_all;
 pub use echoing::{Echoes, make_echoes, send_echoes};
 pub use ending::{open_count, open_in, tell_by, tell_first};
-pub use giving_up::{AttachReady, GivingUp, go_on_attached, make_attach_ready, refuse_attach};
+pub use giving_up::{
+    AttachReady, Closing, GivingUp, close_for, go_on_attached, make_answer_ready,
+    make_attach_ready, make_closing, make_room_to_tell,
+};
 pub use looking::is_receiving;
 pub use measuring::delivery_fits;
 pub use one::dispose;

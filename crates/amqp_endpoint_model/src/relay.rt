@@ -182,8 +182,8 @@ pub trait SessionRelay: Drop {
             (attaching a.link a.events.items) out.old.items self.new out.new.items) }
         ensures err { IfErr result (does.bars self.old limit (AttachSender session settings.now)) }
         ensures kept { OnErr result ((self.new ≡ self.old) × (out.new.items ≡ out.old.items)) }
-        ensures within { (most : ℕ) → 512 ≤ most → does.within most self.old →
-            does.within most self.new }
+        ensures within { does.within limit self.new }
+        ensures none { does.idle self.old → (most : ℕ) → does.within most self.new }
         ensures quiet { does.idle self.old → out.new.items ≡ out.old.items }
         ensures idle { does.idle self.old → does.idle self.new }
         ensures still { StandsStill (does.connection self.old) (does.connection self.new) };
@@ -204,8 +204,8 @@ pub trait SessionRelay: Drop {
         ensures err { IfErr result (does.bars self.old limit
             (AttachReceiver session settings.now)) }
         ensures kept { OnErr result ((self.new ≡ self.old) × (out.new.items ≡ out.old.items)) }
-        ensures within { (most : ℕ) → 512 ≤ most → does.within most self.old →
-            does.within most self.new }
+        ensures within { does.within limit self.new }
+        ensures none { does.idle self.old → (most : ℕ) → does.within most self.new }
         ensures quiet { does.idle self.old → out.new.items ≡ out.old.items }
         ensures idle { does.idle self.old → does.idle self.new }
         ensures still { StandsStill (does.connection self.old) (does.connection self.new) };

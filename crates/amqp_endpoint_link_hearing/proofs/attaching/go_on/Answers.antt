@@ -8,46 +8,56 @@ use Rattle.amqp_endpoint_link_hearing.proofs.attaching.go_on.Goals as goal
 
 pub unreachable-requires : goal.unreachable-requires
 unreachable-requires c =
-    absurd (none-lent c.args.talk.now c.args.session c.args.handle c.in_default.ensures.value c.requires.there)
+    absurd (none-lent c.args.talk.now c.args.ready.closing.session c.args.ready.closing.handle
+    c.in_default.ensures.value c.requires.serves.there)
 
 pub go_on_attached-requires-clause-there : goal.go_on_attached-requires-clause-there
 go_on_attached-requires-clause-there c =
-    subst (λ (s : Linked). IsSome (end_at s c.args.handle)) (sym c.deref_mut.ensures.value)
-    (end-lent c.args.talk.now c.args.session c.args.handle c.in-Some.live.now c.in-Some.ensures.value c.requires.there)
+    subst (λ (s : Linked). IsSome (end_at s c.args.ready.closing.handle)) (sym c.deref_mut.ensures.value)
+    (end-lent c.args.talk.now c.args.ready.closing.session c.args.ready.closing.handle c.in-Some.live.now
+    c.in-Some.ensures.value c.requires.serves.there)
 
 pub go_on_attached-requires-clause-sends : goal.go_on_attached-requires-clause-sends
 go_on_attached-requires-clause-sends c =
     subst
     (λ (s : Linked).
-    HasRoomToSend c.args.handle c.args.ready s (deque_len c.args.out.now) (deque_capacity c.args.out.now))
-    (sym c.deref_mut.ensures.value) (c.requires.sends c.in-Some.live.now (sym c.in-Some.ensures.value))
+    HasRoomToSend c.args.ready s (deque_len c.args.out.now) (deque_capacity c.args.out.now))
+    (sym c.deref_mut.ensures.value) (c.requires.serves.sends c.in-Some.live.now (sym c.in-Some.ensures.value))
+
+pub go_on_attached-requires-clause-bare : goal.go_on_attached-requires-clause-bare
+go_on_attached-requires-clause-bare c = c.requires.serves.bare
 
 pub returns-clause-does : goal.returns-clause-does
 returns-clause-does c = λ limit aborts made.
-    attached-on c.args.session c.args.ready.count c.args.handle c.args.ready.why c.requires.why c.args.talk.now
+    attached-on c.args.ready.closing.session c.args.ready.closing.count c.args.ready.closing.handle
+    c.args.ready.closing.why c.requires.serves.why c.args.talk.now
     c.in-Some.live.now c.in-Some.ensures.value c.deref_mut.result.now c.go_on_attached.new.session
     c.deref_mut.ensures.value c.args.out.now.items c.go_on_attached.new.out.items c.args.events.now.items
     c.go_on_attached.new.events.items limit aborts (c.go_on_attached.ensures limit aborts made)
 
 pub returns-clause-goes : goal.returns-clause-goes
 returns-clause-goes c = λ limit aborts made least.
-    attached-goes limit c.args.session c.args.ready.count c.args.handle aborts c.args.talk.now
-    (behind-talk c.args.talk.now c.args.session c.in-Some.live.now c.go_on_attached.new.session)
+    attached-goes limit c.args.ready.closing.session c.args.ready.closing.count c.args.ready.closing.handle aborts
+    c.args.talk.now
+    (behind-talk c.args.talk.now c.args.ready.closing.session c.in-Some.live.now c.go_on_attached.new.session)
     c.args.out.now.items c.go_on_attached.new.out.items c.args.events.now.items c.go_on_attached.new.events.items
     c.len-from.result
-    (attached-on c.args.session c.args.ready.count c.args.handle c.args.ready.why c.requires.why c.args.talk.now
+    (attached-on c.args.ready.closing.session c.args.ready.closing.count c.args.ready.closing.handle
+    c.args.ready.closing.why c.requires.serves.why c.args.talk.now
     c.in-Some.live.now c.in-Some.ensures.value c.deref_mut.result.now c.go_on_attached.new.session
     c.deref_mut.ensures.value c.args.out.now.items c.go_on_attached.new.out.items c.args.events.now.items
     c.go_on_attached.new.events.items limit aborts (c.go_on_attached.ensures limit aborts made))
-    (closing-fits limit c.args.handle c.handle_is_read.ensures least)
+    (closing-fits limit c.args.ready.closing.handle c.handle_is_read.ensures least)
     (c.len-from.ensures ∙ c.args.out.now.ok.0) c.frames_are_read.ensures
 
 pub returns-clause-rests : goal.returns-clause-rests
 returns-clause-rests c = λ limit aborts made.
-    attached-rests limit c.args.session c.args.ready.count c.args.handle aborts c.args.talk.now
-    (behind-talk c.args.talk.now c.args.session c.in-Some.live.now c.go_on_attached.new.session)
+    attached-rests limit c.args.ready.closing.session c.args.ready.closing.count c.args.ready.closing.handle aborts
+    c.args.talk.now
+    (behind-talk c.args.talk.now c.args.ready.closing.session c.in-Some.live.now c.go_on_attached.new.session)
     c.args.out.now.items c.go_on_attached.new.out.items c.args.events.now.items c.go_on_attached.new.events.items
-    (attached-on c.args.session c.args.ready.count c.args.handle c.args.ready.why c.requires.why c.args.talk.now
+    (attached-on c.args.ready.closing.session c.args.ready.closing.count c.args.ready.closing.handle
+    c.args.ready.closing.why c.requires.serves.why c.args.talk.now
     c.in-Some.live.now c.in-Some.ensures.value c.deref_mut.result.now c.go_on_attached.new.session
     c.deref_mut.ensures.value c.args.out.now.items c.go_on_attached.new.out.items c.args.events.now.items
     c.go_on_attached.new.events.items limit aborts (c.go_on_attached.ensures limit aborts made))

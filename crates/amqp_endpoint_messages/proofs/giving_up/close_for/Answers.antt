@@ -9,7 +9,7 @@ pub unreachable-requires : goal.unreachable-requires
 unreachable-requires c =
     let clash : false ≡ true =
     ap (λ (o : Option End). is_some o)
-    (sym (none_there c.args.session.now.session c.args.handle c.in_default.ensures))
+    (sym (none_there c.args.session.now.session c.args.closing.handle c.in_default.ensures))
     ∙ c.requires.there in absurd cc
 
 pub push_reserved-requires : goal.push_reserved-requires
@@ -21,8 +21,8 @@ tell_first-requires c =
 
 pub returns : goal.returns
 returns c =
-    closed-for c.args.number c.args.error c.args.count c.args.handle c.args.detach.1 c.in-Some.there.now
+    closed-for c.args.closing.session c.args.error c.args.closing.count c.args.closing.handle c.args.closing.why c.in-Some.there.now
     c.args.session.now c.close_where.new.session c.tell_first.new.session c.args.out.now.items
     c.close_where.new.out.items c.args.events.now.items c.push_reserved.new.self.items c.tell_first.new.events.items
     c.in-Some.ensures c.close_where.ensures c.push_reserved.ensures.items c.tell_first.ensures.tells
-    (c.tell_first.ensures.told None (no-copies c.args.count _ c.new.ensures.items))
+    (c.tell_first.ensures.told None (no-copies c.args.closing.count _ c.new.ensures.items))

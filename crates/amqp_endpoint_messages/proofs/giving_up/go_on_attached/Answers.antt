@@ -14,7 +14,7 @@ tell_first-requires c = omega (arith, c.requires.tells)
 
 pub give_up-stopped-requires-clause-there : goal.give_up-stopped-requires-clause-there
 give_up-stopped-requires-clause-there c =
-    is_there_in c.tell_first.new.session.session c.args.handle (c.tell_first.ensures.there c.requires.there)
+    is_there_in c.tell_first.new.session.session c.args.ready.closing.handle (c.tell_first.ensures.there c.requires.there)
 
 pub give_up-stopped-requires-clause-room : goal.give_up-stopped-requires-clause-room
 give_up-stopped-requires-clause-room c =
@@ -31,37 +31,51 @@ give_up-stopped-requires-clause-spare c =
 
 pub close_for-requires-clause-there : goal.close_for-requires-clause-there
 close_for-requires-clause-there c =
-    still-there c.tell_first.new.session.session c.give_up-stopped.new.session c.args.handle
+    still-there c.tell_first.new.session.session c.give_up-stopped.new.session c.args.ready.closing.handle
     c.give_up-stopped.ensures.links (c.tell_first.ensures.there c.requires.there)
 
 pub close_for-requires-clause-place : goal.close_for-requires-clause-place
 close_for-requires-clause-place c =
-    c.give_up-stopped.ensures.place c.args.ready.place c.requires.sends.some
+    c.give_up-stopped.ensures.place c.args.ready.closing.place c.requires.sends.place.some
     (subst
-    (λ (o : sending.State TransferFrame BehindFrame). room_behind c.args.handle.0 1 o.queues ≤ c.args.ready.place)
-    (sym c.tell_first.ensures.waiting) c.requires.sends.place)
+    (λ (o : sending.State TransferFrame BehindFrame). room_behind c.args.ready.closing.handle.0 1 o.queues ≤ c.args.ready.closing.place)
+    (sym c.tell_first.ensures.waiting) c.requires.sends.place.serves)
 
 pub close_for-requires-clause-tells : goal.close_for-requires-clause-tells
 close_for-requires-clause-tells c =
     omega (arith, c.requires.tells, c.tell_first.ensures.few, c.tell_first.ensures.capacity)
 
-pub returns-in_default : goal.returns-in_default
-returns-in_default c = λ limit aborts planned.
-    let given : Linked = record c.tell_first.new.session { session = c.give_up-stopped.new.session } in
-    attached limit c.args.number c.args.ready.count c.args.handle c.args.ready.why aborts
-    c.args.ready.giving.batches.items c.args.ready.giving.all_fit planned c.args.session.now
-    c.tell_first.new.session given c.args.out.now.items c.give_up-stopped.new.out.items c.args.events.now.items
-    c.tell_first.new.events.items c.give_up-stopped.result c.tell_first.ensures.tells
-    (c.tell_first.ensures.told None (no-copies c.args.ready.count _ c.new.ensures.items))
-    c.give_up-stopped.ensures.hands refl None c.in_default.ensures refl
+pub take_kept-requires-clause-there : goal.take_kept-requires-clause-there
+take_kept-requires-clause-there c =
+    is_there_in c.give_up-stopped.new.session c.args.ready.closing.handle
+    (still-there c.tell_first.new.session.session c.give_up-stopped.new.session c.args.ready.closing.handle
+    c.give_up-stopped.ensures.links (c.tell_first.ensures.there c.requires.there))
 
-pub returns : goal.returns
-returns c = λ limit aborts planned.
+pub take_kept-requires-clause-place : goal.take_kept-requires-clause-place
+take_kept-requires-clause-place c =
+    c.give_up-stopped.ensures.place c.args.ready.closing.place c.requires.sends.place.some
+    (subst
+    (λ (o : sending.State TransferFrame BehindFrame). room_behind c.args.ready.closing.handle.0 1 o.queues ≤ c.args.ready.closing.place)
+    (sym c.tell_first.ensures.waiting) c.requires.sends.place.serves)
+
+pub returns-in-None : goal.returns-in-None
+returns-in-None c = λ limit aborts planned.
     let given : Linked = record c.tell_first.new.session { session = c.give_up-stopped.new.session } in
-    attached-not limit c.args.number c.args.ready.count c.args.handle c.args.ready.why aborts
+    attached limit c.args.ready.closing.session c.args.ready.closing.count c.args.ready.closing.handle c.args.ready.closing.why aborts c.args.kept
     c.args.ready.giving.batches.items c.args.ready.giving.all_fit planned c.args.session.now
     c.tell_first.new.session given c.args.out.now.items c.give_up-stopped.new.out.items c.args.events.now.items
     c.tell_first.new.events.items c.give_up-stopped.result c.tell_first.ensures.tells
-    (c.tell_first.ensures.told None (no-copies c.args.ready.count _ c.new.ensures.items))
+    (c.tell_first.ensures.told None (no-copies c.args.ready.closing.count _ c.new.ensures.items))
+    c.give_up-stopped.ensures.hands refl None c.in-None.ensures refl c.take_kept.new.session
+    c.take_kept.new.out.items c.take_kept.ensures
+
+pub returns-in-Some : goal.returns-in-Some
+returns-in-Some c = λ limit aborts planned.
+    let given : Linked = record c.tell_first.new.session { session = c.give_up-stopped.new.session } in
+    attached-not limit c.args.ready.closing.session c.args.ready.closing.count c.args.ready.closing.handle c.args.ready.closing.why aborts c.args.kept
+    c.args.ready.giving.batches.items c.args.ready.giving.all_fit planned c.args.session.now
+    c.tell_first.new.session given c.args.out.now.items c.give_up-stopped.new.out.items c.args.events.now.items
+    c.tell_first.new.events.items c.give_up-stopped.result c.tell_first.ensures.tells
+    (c.tell_first.ensures.told None (no-copies c.args.ready.closing.count _ c.new.ensures.items))
     c.give_up-stopped.ensures.hands refl (Some c.in-Some.error) c.in-Some.ensures c.in-Some.error
     c.close_for.new.session c.close_for.new.out.items c.close_for.new.events.items refl c.close_for.ensures

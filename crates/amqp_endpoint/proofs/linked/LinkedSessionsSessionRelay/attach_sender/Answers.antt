@@ -1,4 +1,5 @@
 use Rattle.std.proofs.Common.{refl}
+use Rattle.amqp_endpoint_conversation.proofs.Calls.{none-within}
 use Rattle.amqp_endpoint_model.specs.declared.call.Call.TheVariants.{AttachSender}
 use Rattle.amqp_endpoint_model.specs.Said.{attaching}
 use Rattle.amqp_endpoint_attached.specs.Links.{sender_by}
@@ -13,14 +14,18 @@ returns-clause-ok c =
     let call = c.attach_sender in
     let new : LinkedSessions = record old { talk = call.new.talk; links = call.new.links } in
     called-if old new c.args.limit (AttachSender c.args.session c.args.settings.now) c.args.out.now.items
-    call.new.out.items c.requires.least c.requires.waiting call.ensures.goes (record { sent = refl; given = refl })
+    call.new.out.items c.requires.least c.requires.waiting (call.ensures.goes c.requires.least)
+    (record { sent = refl; given = refl })
     (λ a. attaching a.link a.events.items)
     (λ a frames. LinkAttached old.talk old.links c.args.limit c.args.session (sender_by c.args.settings.now) a.link
     a.events.items frames new.talk new.links)
     (λ a frames attached. attached) call.result call.ensures.ok
 
 pub returns-clause-within : goal.returns-clause-within
-returns-clause-within c most least = c.attach_sender.ensures.waits most
+returns-clause-within c = (c.attach_sender.ensures.goes c.requires.least).waits c.requires.waiting
+
+pub returns-clause-none : goal.returns-clause-none
+returns-clause-none c none most = none-within most c.attach_sender.new.talk (c.attach_sender.ensures.rests.idle none)
 
 pub returns-clause-quiet : goal.returns-clause-quiet
 returns-clause-quiet c = c.attach_sender.ensures.rests.silent
@@ -29,4 +34,4 @@ pub returns-clause-idle : goal.returns-clause-idle
 returns-clause-idle c = c.attach_sender.ensures.rests.idle
 
 pub returns-clause-still : goal.returns-clause-still
-returns-clause-still c = c.attach_sender.ensures.goes.still
+returns-clause-still c = (c.attach_sender.ensures.goes c.requires.least).still

@@ -7,7 +7,7 @@ use Rattle.amqp_endpoint_core.specs.Queue.{frames_waiting}
 use Rattle.amqp_endpoint_core.proofs.CallLaws.{called, queue_called}
 use Rattle.amqp_endpoint_core.proofs.ConnectedLaws.{seen_still, stands_still}
 use Rattle.amqp_endpoint_core.proofs.IdleLaws.{idle_still}
-use Rattle.amqp_endpoint_core.proofs.WithinLaws.{wait_least}
+use Rattle.amqp_endpoint_core.proofs.WithinLaws.{wait_sent}
 use Rattle.amqp_endpoint_core.proofs.endpoint.Endpoint.attach_receiver.Goals as goal
 
 pub invariant_of-self-2 : goal.invariant_of-self-2
@@ -28,8 +28,9 @@ invariant_of-self-2 g c =
           c.self.inside.queue.items c.self.inside.out.items
           c.attach_receiver.new.out.items c.self.inside.sessions c.attach_receiver.new.self limit_is
           c.in_ok-attaching.ensures.ok within,
-      wait_least does c.self.inside.phase c.self.inside.peer_limit c.self.inside.sessions c.attach_receiver.new.self
-          c.in_ok-attaching.ensures.within least waits,
+      wait_sent does c.self.inside.phase c.self.inside.peer_limit c.self.inside.sessions c.attach_receiver.new.self
+          c.limit-limit.result limit_is c.in_ok-attaching.ensures.within
+          (λ un. c.in_ok-attaching.ensures.none (idle (ap (λ (p : Phase). is_running p) un))),
       idle_still does c.self.inside.phase c.self.inside.sessions c.attach_receiver.new.self
           c.in_ok-attaching.ensures.idle idle,
     )

@@ -1,27 +1,89 @@
 -- What a link does once it took the peer's Attach is done by steps of its session that bring what fits.
 use Rattle.std.proofs.Common.{◌≡◌, inl, inr, ℕ, Bool, true, false, List, [], ◌∷◌, ◌++◌, Option, Some, None, refl, sym}
-use Rattle.std.proofs.Common.{ap, subst, ◌∙◌, append-nil, append_assoc}
-use Rattle.std.specs.Prelude.{All, map}
+use Rattle.std.proofs.Common.{◌<◌, ◌≤◌, ap, subst, ◌∙◌, append-nil, append_assoc}
+use Rattle.std.specs.Prelude.{◌^◌, All, map}
 use Rattle.std.proofs.lemmas.List.Elements.{All-head, All-tail}
 use Rattle.amqp_session_types.specs.declared.error.Error.{Error}
 use Rattle.amqp_session_types.specs.declared.handles.OutputHandle.{OutputHandle}
+use Rattle.amqp_session_performatives.specs.declared.detach.Detach.{Detach}
+use Rattle.amqp_session_performatives.specs.declared.link_flow.LinkFlow.{LinkFlow}
 use Rattle.amqp_session_performatives.specs.declared.session_frame.SessionFrame.{SessionFrame}
+use Rattle.amqp_session_performatives.specs.declared.session_frame.SessionFrameBody.TheVariants as body
 use Rattle.amqp_session_core.specs.State.{link_at}
-use Rattle.amqp_session_core.specs.Steps.{Changes, SendsTransfers}
+use Rattle.amqp_session_core.specs.Steps.{Changes, SendsBehind, SendsTransfers, Step}
+use Rattle.amqp_session_core.specs.declared.batch.BehindFrame.TheVariants as behind
 use Rattle.amqp_session_core.specs.declared.fields.SessionFields.{SessionFields}
+use Rattle.amqp_link_base.specs.declared.detached.Detached.{Detached}
+use Rattle.amqp_link_receiver.specs.declared.answer.Told.{Told}
 use Rattle.amqp_link_unsettled.specs.declared.exchanging.Abort.{Abort}
-use Rattle.amqp_endpoint_fitting.specs.Fits.{UnitFits}
+use Rattle.amqp_link.specs.Ends.{flowed}
+use Rattle.amqp_link.specs.declared.end.End.{End}
+use Rattle.amqp_link.specs.declared.relay.AttachTold.{AttachTold}
+use Rattle.amqp_endpoint_fitting.proofs.Frames.{detach_fits, larger_fits, not_allowed-short}
+use Rattle.amqp_endpoint_fitting.specs.Fits.{BehindFits, UnitFits}
 use Rattle.amqp_endpoint_fitting.specs.Handed.{AllAskingEndFit, AllAskingHand, AllAskingSendFit}
-use Rattle.amqp_endpoint_links.specs.History.{AskingHistory, InSession}
+use Rattle.amqp_endpoint_links.specs.History.{AskingAct, AskingHistory, InSession}
+use Rattle.amqp_endpoint_links.specs.declared.numbered.Numbered.{Numbered}
+use Rattle.amqp_endpoint_model.specs.State.{error_of, frame_of}
+use Rattle.amqp_endpoint_model.specs.Step.{not_allowed}
 use Rattle.amqp_endpoint_model.specs.declared.error.EndpointError.{EndpointError}
 use Rattle.amqp_endpoint_model.specs.declared.event.Event.{Event}
-use Rattle.amqp_endpoint_attached.specs.Detaching.{is_there}
+use Rattle.amqp_endpoint_attached.specs.Detaching.{DetachGiven, is_there, own_detach}
+use Rattle.amqp_endpoint_attached.specs.Kept.{Replies, TakesBy, TakesKept}
 use Rattle.amqp_endpoint_attached.specs.Linked.{Linked, LinksIn, end_at, gives}
+use Rattle.amqp_endpoint_attached.specs.Links.{with_number}
+use Rattle.amqp_endpoint_attached.proofs.Fitting.{reply_plain}
 use Rattle.amqp_endpoint_messages.specs.All.{TellsFirst, TellsIn, behind_told}
 use Rattle.amqp_endpoint_messages.specs.GivingUp.{AttachedAt, ClosedFor, ClosesIf, EndsIf, GivesUp, HandsEach, batch_of}
 use Rattle.amqp_endpoint_messages.specs.GivingUp.{fitting}
-use Rattle.amqp_endpoint_linking.specs.Linking.{Link}
-use Rattle.amqp_endpoint_link_hearing.proofs.Doing.{Done, Fits, LinkAct, given, unchanged}
+
+abbrev pub LinkAct : Type 0
+LinkAct = AskingAct (Numbered End) AttachTold Told Detached
+
+-- what is done in a session is done by steps that bring what fits
+pub record Done (limit : ℕ) (old : Linked) (frames : List SessionFrame) (new : Linked) : Type 0 where
+  pub steps : List LinkAct
+  pub history : AskingHistory gives old steps new
+  pub sends : AllAskingSendFit old.session.fields.channel.0 limit steps
+  pub ends : AllAskingEndFit limit steps
+  pub hand : AllAskingHand steps frames
+
+pub unchanged : (limit : ℕ) (old : Linked) (frames : List SessionFrame) (new : Linked) → new ≡ old → frames ≡ []
+    → Done limit old frames new
+unchanged limit old frames new is none =
+    record { steps = []; history = is; sends = tt; ends = tt; hand = none }
+
+-- the own Detach of a link fits every peer's limit
+abbrev pub Fits : ℕ → Linked → OutputHandle → Bool → Option Error → Type 0
+Fits limit old handle closed error =
+    BehindFits old.session.fields.channel.0 limit (behind.Detach (own_detach handle closed error))
+
+-- so does that of one that is closed for what isn't allowed
+pub not-allowed-fits : (limit : ℕ) (s : Linked) (handle : OutputHandle) → handle.0 < 2 ^ 32 → 512 ≤ limit
+    → Fits limit s handle true (Some (error_of not_allowed))
+not-allowed-fits limit s handle small least =
+    let said : Detach = own_detach handle true (Some (error_of not_allowed)) in
+    larger_fits limit (frame_of (record { channel = s.session.fields.channel.0; body = body.Detach said })) least
+    (detach_fits s.session.fields.channel.0 said (record { handle = small; error = not_allowed-short }))
+
+-- a link sends its Detach, as it is changed
+pub given : (limit : ℕ) (old : Linked) (handle : OutputHandle) (closed : Bool) (error : Option Error)
+    (frames : List SessionFrame) (new : Linked) → Fits limit old handle closed error
+    → DetachGiven old handle closed error [] new frames → Done limit old frames new
+given limit old handle closed error frames new fit g =
+    let s = g.sent in
+    record {
+      steps =
+          InSession (Changes handle.0 (record { number = g.number; link = g.before })
+          (record { number = g.number; link = g.after }))
+          ∷ InSession (SendsBehind handle (behind.Detach (own_detach handle closed error)) s.left s.answer) ∷ [];
+      history =
+          (record old { session = s.mid }, (s.changed, refl), (new, (s.sent, s.rest), refl));
+      sends = (tt, (fit, tt));
+      ends = (tt, (tt, tt));
+      hand =
+          ([], g.frames, refl, (g.frames, [], s.frames_are, refl, sym (append-nil g.frames)), g.added);
+    }
 
 -- one after the other
 history-both : (first later : List LinkAct) (old mid new : Linked) → AskingHistory gives old first mid
@@ -52,7 +114,7 @@ pub record Stepped (limit : ℕ) (old : Linked) (frames : List SessionFrame) (ne
   pub done : Done limit old frames new
   pub fields : new.session.fields ≡ old.session.fields
 
-both : (limit : ℕ) (old mid new : Linked) (a b : List SessionFrame) → Stepped limit old a mid → Stepped limit mid b new
+pub both : (limit : ℕ) (old mid new : Linked) (a b : List SessionFrame) → Stepped limit old a mid → Stepped limit mid b new
     → Stepped limit old (a ++ b) new
 both limit old mid new a b f l =
     let later : AllAskingSendFit old.session.fields.channel.0 limit l.done.steps =
@@ -78,7 +140,7 @@ stays limit old new frames same none =
     }
 
 -- a link tells of messages
-tells-by : (limit count : ℕ) (handle : OutputHandle) (link : Option Link) (old new : Linked)
+tells-by : (limit count : ℕ) (handle : OutputHandle) (link : Option (Numbered End)) (old new : Linked)
     → TellsIn count handle link old.session new.session → new ≡ record old { session = new.session }
     → Stepped limit old [] new
 tells-by limit count handle None old new same rest =
@@ -97,7 +159,7 @@ tells-by limit count handle (Some link) old new stepped rest =
       fields = ap (λ (s : LinksIn). s.fields) stepped.1;
     }
 
-tells : (limit count : ℕ) (handle : OutputHandle) (link : Option Link) (old new : Linked)
+tells : (limit count : ℕ) (handle : OutputHandle) (link : Option (Numbered End)) (old new : Linked)
     → TellsFirst count handle link old new → Stepped limit old [] new
 tells limit count handle link old new t = tells-by limit count handle link old new t.tells t.rest
 
@@ -190,12 +252,77 @@ closed-for limit session error count handle why frames events old new fit c =
     (tells limit count handle (link_at (c.mid).session handle.0) c.mid new c.tells) in
     subst (λ (fs : List SessionFrame). Stepped limit old fs new) (append-nil frames) both_so
 
+-- what was kept of a Flow is taken, and replied to
+reply-steps : (limit : ℕ) (handle : OutputHandle) (flow : LinkFlow) (reply : Option LinkFlow) (old new : Linked)
+    (mid : LinksIn) (frames : List SessionFrame) (taken : TakesBy handle flow reply old.session mid)
+    → Replies gives handle reply mid [] new.session frames → new ≡ record old { session = new.session }
+    → Stepped limit old frames new
+reply-steps limit handle flow None old new mid frames taken (same, silent) rest =
+    record {
+      done =
+          record {
+            steps =
+                InSession
+                (Changes handle.0 (with_number taken.number taken.before)
+                (with_number taken.number (flowed taken.before flow)))
+                ∷ [];
+            history = (
+              new,
+              (
+                subst
+                    (λ (s : LinksIn).
+                    Step gives old.session
+                    (Changes handle.0 (with_number taken.number taken.before)
+                    (with_number taken.number (flowed taken.before flow)))
+                    s)
+                    (sym same) taken.changed,
+                rest,
+              ),
+              refl,
+            );
+            sends = (tt, tt);
+            ends = (tt, tt);
+            hand = ([], [], refl, refl, silent);
+          };
+      fields = ap (λ (s : LinksIn). s.fields) same ∙ ap (λ (s : LinksIn). s.fields) taken.changed.1;
+    }
+reply-steps limit handle flow (Some reply) old new mid frames taken r rest =
+    record {
+      done =
+          record {
+            steps =
+                InSession
+                (Changes handle.0 (with_number taken.number taken.before)
+                (with_number taken.number (flowed taken.before flow)))
+                ∷ InSession
+                (SendsBehind handle (behind.Flow (record reply { handle = record { 0 = handle.0 } })) r.sent.left r.frame)
+                ∷ [];
+            history = (
+              record old { session = mid },
+              (taken.changed, refl),
+              (new, (r.sent.stepped, rest), refl),
+            );
+            sends = (tt, (reply_plain taken.before flow reply (sym taken.is), tt));
+            ends = (tt, (tt, tt));
+            hand = ([], frames, refl, (frames, [], r.handed, refl, sym (append-nil frames)), refl);
+          };
+      fields = ap (λ (s : LinksIn). s.fields) r.sent.stepped.2 ∙ ap (λ (s : LinksIn). s.fields) taken.changed.1;
+    }
+
+kept-steps : (limit : ℕ) (handle : OutputHandle) (kept : Option LinkFlow) (old new : Linked)
+    (frames : List SessionFrame) → TakesKept handle kept old [] new frames → Stepped limit old frames new
+kept-steps limit handle None old new frames t =
+    stays limit old new frames (t.rest ∙ ap (λ (s : LinksIn). record old { session = s }) t.takes.0) t.takes.1
+kept-steps limit handle (Some flow) old new frames t =
+    reply-steps limit handle flow t.takes.reply old new t.takes.mid frames t.takes.takes t.takes.replies t.rest
+
 ends-if : (stuck : Option EndpointError) (limit session count : ℕ) (handle : OutputHandle) (why : Error)
-    (frames : List SessionFrame) (events : List Event) (old new : Linked) → Fits limit old handle true (Some why)
-    → EndsIf stuck session count handle why frames events old new → Stepped limit old frames new
-ends-if None limit session count handle why frames events old new fit (none, _, same) =
-    stays limit old new frames same none
-ends-if (Some error) limit session count handle why frames events old new fit c =
+    (kept : Option LinkFlow) (frames : List SessionFrame) (events : List Event) (old new : Linked)
+    → Fits limit old handle true (Some why) → EndsIf stuck session count handle why kept frames events old new
+    → Stepped limit old frames new
+ends-if None limit session count handle why kept frames events old new fit (takes, _) =
+    kept-steps limit handle kept old new frames takes
+ends-if (Some error) limit session count handle why kept frames events old new fit c =
     closed-for limit session error count handle why frames events old new fit c
 
 -- the own Detach fits as before
@@ -207,9 +334,10 @@ fits-still limit old new handle error same fit =
     (sym same) fit
 
 pub attached-at : (limit session count : ℕ) (handle : OutputHandle) (why : Error) (aborts : List Abort)
-    (frames : List SessionFrame) (events : List Event) (old new : Linked) → Fits limit old handle true (Some why)
-    → AttachedAt limit session count handle why aborts frames events old new → Stepped limit old frames new
-attached-at limit session count handle why aborts frames events old new fit a =
+    (kept : Option LinkFlow) (frames : List SessionFrame) (events : List Event) (old new : Linked)
+    → Fits limit old handle true (Some why)
+    → AttachedAt limit session count handle why aborts kept frames events old new → Stepped limit old frames new
+attached-at limit session count handle why aborts kept frames events old new fit a =
     let first : Stepped limit old [] a.told =
     tells limit count handle (link_at old.session handle.0) old a.told a.tells in
     let second : Stepped limit a.told a.up a.given =
@@ -217,7 +345,7 @@ attached-at limit session count handle why aborts frames events old new fit a =
     let here : Fits limit a.given handle true (Some why) =
     fits-still limit old a.given handle (Some why) (second.fields ∙ first.fields) fit in
     let third : Stepped limit a.given a.down new =
-    ends-if a.stuck limit session count handle why a.down a.failed a.given new here a.ends in
+    ends-if a.stuck limit session count handle why kept a.down a.failed a.given new here a.ends in
     let all : Stepped limit old (a.up ++ a.down) new =
     both limit old a.told new [] (a.up ++ a.down) first
     (both limit a.told a.given new a.up a.down second third) in

@@ -1,0 +1,228 @@
+-- What was made ready for a link that answers one of the peer's serves once it answers.
+use Rattle.std.proofs.Common.{◌≡◌, ◌+◌, ◌≤◌, ◌<◌, ℕ, Bool, List, [], ◌++◌, Some, Option, refl, sym, ap, subst, ◌∙◌}
+use Rattle.std.proofs.Common.{arith}
+use Rattle.std.proofs.Common.{append_assoc, length}
+use Rattle.std.specs.Prelude.{IsSome, max, min, option_map}
+use Rattle.amqp_session_types.specs.declared.handles.InputHandle.{InputHandle}
+use Rattle.amqp_session_types.specs.declared.handles.OutputHandle.{OutputHandle}
+use Rattle.amqp_session_types.specs.declared.error.Error.{Error}
+use Rattle.amqp_session_performatives.specs.declared.session_frame.SessionFrame.{SessionFrame}
+use Rattle.amqp_session_outgoing.specs.Queues.{frames_in, room_behind}
+use Rattle.amqp_session_outgoing.specs.State as sending
+use Rattle.amqp_session_core.specs.State.{link_at}
+use Rattle.amqp_session_core.specs.declared.batch.BehindFrame.{BehindFrame}
+use Rattle.amqp_session_core.specs.declared.batch.TransferFrame.{TransferFrame}
+use Rattle.amqp_link_unsettled.specs.declared.exchanging.Abort.{Abort}
+use Rattle.amqp_link_sender.specs.declared.attaching.Attaching.{Attaching}
+use Rattle.amqp_link.specs.GoingOn.{aborts_of}
+use Rattle.amqp_link.specs.Preparing.{left_by}
+use Rattle.amqp_link.specs.declared.end.End.{End}
+use Rattle.amqp_link.specs.declared.preparing.PreparedAttach.{PreparedAttach}
+use Rattle.amqp_link.specs.declared.preparing.PreparedAttach.TheVariants as plan
+use Rattle.amqp_endpoint_links.specs.declared.numbered.Numbered.{Numbered}
+use Rattle.amqp_endpoint_model.specs.State.{error_of}
+use Rattle.amqp_endpoint_model.specs.Step.{not_allowed}
+use Rattle.amqp_endpoint_model.specs.declared.event.Event.{Event}
+use Rattle.amqp_endpoint_attached.specs.Answering.{Answers, IsPrepared, IsTakenSo, RefusesAnswer, left_to_do}
+use Rattle.amqp_endpoint_attached.specs.Linked.{Linked, LinksIn, end_at, gives}
+use Rattle.amqp_endpoint_attached.specs.Links.{offered, with_number}
+use Rattle.amqp_endpoint_attached.specs.Refusals.{RefusesHandle}
+use Rattle.amqp_endpoint_attached.specs.declared.answering.Answered.{Answered}
+use Rattle.amqp_endpoint_attached.specs.declared.exchanging.PreparedAnswer.{PreparedAnswer}
+use Rattle.amqp_endpoint_attached.specs.declared.refusal.AttachRefusal.{AttachRefusal}
+use Rattle.amqp_endpoint_attached.specs.declared.refusal.AttachRefusal.TheVariants as why
+use Rattle.amqp_endpoint_attached.proofs.Owned.{given_by}
+use Rattle.amqp_endpoint_attached.proofs.Refusing.{none_left}
+use Rattle.amqp_endpoint_messages.specs.All.{open_count}
+use Rattle.amqp_endpoint_messages.specs.GivingUp.{AttachedAt, DoesAttached, attached_told}
+use Rattle.amqp_endpoint_messages.specs.MadeReady.{HasRoomToSend, IsClosing, IsMadeReady, MadeRoom}
+use Rattle.amqp_endpoint_messages.specs.declared.giving_up.AttachReady.{AttachReady}
+use Rattle.amqp_endpoint_messages.specs.declared.giving_up.Closing.{Closing}
+use Rattle.amqp_endpoint_link_calls.specs.Answering.{IsBehind}
+use Rattle.amqp_endpoint_link_calls.specs.Attaching.{AnswersAsked}
+use Rattle.amqp_endpoint_link_calls.specs.declared.placed.Placed.{Placed}
+use Rattle.amqp_endpoint_link_calls.specs.declared.placing.Behind.{Behind}
+
+-- a session but for its room for transfers
+abbrev roomy : Linked → ℕ → Linked
+roomy s n = record s { session = record s.session { outgoing = record s.session.outgoing { room = n } } }
+
+made-roomy : (before ready : Linked) → (made : MadeRoom before ready)
+    → ready ≡ roomy before (max before.session.outgoing.room (made.made).count)
+made-roomy before ready made =
+    let r = (made.made).reserves in
+    made.rest
+    ∙ ap (λ (s : LinksIn). record before { session = s })
+    (r.1 ∙ ap (λ (o : sending.State TransferFrame BehindFrame). record before.session { outgoing = o }) r.0)
+
+-- with the room of before it is as it was
+least : (room more now : ℕ) → now ≡ room → min (max room more) now ≡ room
+least room more now is = omega (arith, is)
+
+pub as-before : (before ready now : Linked) (room : ℕ) (new : LinksIn) → MadeRoom before ready → now ≡ ready
+    → room ≡ before.session.outgoing.room
+    → new ≡ record now.session {
+      outgoing = record now.session.outgoing { room = min now.session.outgoing.room room };
+    }
+    → record now { session = new } ≡ before
+as-before before ready now room new made same was lowers =
+    let low : Linked → Linked = λ s. roomy s (min s.session.outgoing.room room) in
+    let more : ℕ = (made.made).count in
+    ap (λ (s : LinksIn). record now { session = s }) lowers
+    ∙ ap low (same ∙ made-roomy before ready made)
+    ∙ ap (λ (n : ℕ). roomy before n) (least before.session.outgoing.room more room was)
+
+-- what was made ready of it is as true behind the room
+module _ (limit : ℕ) (before ready : Linked) (made : MadeRoom before ready) (link : End) (input : InputHandle)
+    (prepared : PreparedAnswer) (is : IsPrepared limit before link input prepared) where
+  abbrev room : ℕ
+  room = max before.session.outgoing.room (made.made).count
+
+  still-so : IsPrepared limit (roomy before room) link input prepared
+  still-so =
+      record { asked = is.asked; is_asked = is.is_asked; is = is.is; offers = is.offers; passes = is.passes }
+
+  pub prepared-still : IsPrepared limit ready link input prepared
+  prepared-still =
+      subst (λ (s : Linked). IsPrepared limit s link input prepared) (sym (made-roomy before ready made)) still-so
+
+  pub taken-still : IsTakenSo ready link input prepared.taken
+  taken-still =
+      let p = prepared-still in record { asked = p.asked; is_asked = p.is_asked; planned = (p.is).planned }
+
+  -- so is why it gets no handle
+  pub refuses-still : (e : AttachRefusal) → RefusesHandle ready.session (Some input.0) e
+      → RefusesAnswer limit before link input e
+  refuses-still e refuses =
+      let p = prepared-still in
+      let after : RefusesAnswer limit ready link input e =
+      none_left limit ready link input p.asked p.is_asked e p.offers p.passes refuses in
+      refused-before e
+      (subst (λ (s : Linked). RefusesAnswer limit s link input e) (made-roomy before ready made) after)
+    where
+      refused-before : (e : AttachRefusal) → RefusesAnswer limit (roomy before room) link input e
+          → RefusesAnswer limit before link input e
+      refused-before why.HandleMaxReached r = r
+      refused-before why.HandleInUse r = r
+      refused-before (why.Link error) r = r
+      refused-before why.FrameTooLarge r = r
+      refused-before why.Memory r = r
+
+-- what a receiver or a sender gives up is what is left to be done
+aborts-left : (taken : PreparedAttach) → (left_by taken).aborts ≡ aborts_of taken
+aborts-left (plan.Sender p) = refl
+aborts-left (plan.Receiver p) = refl
+
+same-handle : (a b : OutputHandle) → a.0 ≡ b.0 → a ≡ b
+same-handle a b is = ap (λ (n : ℕ). let h : OutputHandle = record { 0 = n } in h) is
+
+-- the link answered under the handle for which all was made ready
+module _ (limit : ℕ) (before ready mid : Linked) (link : End) (input : InputHandle) (session number : ℕ)
+    (prepared : PreparedAnswer) (closing : Closing) (behind : Behind) (answered : Answered)
+    (out out_mid : List SessionFrame) (len capacity : ℕ) (handle : OutputHandle)
+    (offers : handle ≡ offered before.session) (opened : ℕ) (counts : opened ≡ open_count (Some link))
+    (closes : IsClosing before session handle opened closing)
+    (made : MadeRoom before ready) (is : IsBehind limit ready closing prepared.taken behind len capacity)
+    (answers : Answers ready out limit number link input answered mid out_mid) where
+  abbrev own : Closing
+  own = behind.ready.closing
+
+  offered-still : ready.session.offered ≡ before.session.offered
+  offered-still = ap (λ (s : Linked). s.session.offered) (made-roomy before ready made)
+
+  pub under : answered.handle ≡ handle
+  under =
+      same-handle answered.handle handle
+      ((answers.allocates).1 ∙ offered-still ∙ sym (ap (λ (h : OutputHandle). h.0) offers))
+
+  own-is : own.handle ≡ answered.handle
+  own-is = ap (λ (c : Closing). c.handle) (is.ready).closing ∙ ap (λ (c : Closing). c.handle) closes.is ∙ sym under
+
+  pub held : own.session ≡ session
+  held = ap (λ (c : Closing). c.session) (is.ready).closing ∙ ap (λ (c : Closing). c.session) closes.is
+
+  -- so the link is there
+  pub there : IsSome (end_at mid own.handle)
+  there =
+      subst (λ (h : OutputHandle). IsSome (end_at mid h)) (sym own-is)
+      (subst (λ (o : Option (Numbered End)). IsSome (option_map (λ (n : Numbered End). n.link) o))
+      (sym (given_by gives ready.session mid.session (answered.handle).0 (with_number number answers.becomes) input.0
+      answers.allocates))
+      refl)
+
+  -- and the room serves
+  pub sends-still : (more most : ℕ) → more ≤ len → most ≡ capacity → HasRoomToSend behind.ready mid more most
+  sends-still more most few same =
+      let r = is.sends in
+      let o : mid.session.outgoing ≡ ready.session.outgoing =
+      ap (λ (s : LinksIn). s.outgoing) (answers.allocates).5 in
+      let fits : more + (frames_in ready.session.outgoing.queues + ready.session.outgoing.room) + 1 ≤ most =
+      omega (arith, r.spare, few, same) in
+      record {
+        room =
+            subst
+            (λ (s : sending.State TransferFrame BehindFrame). length behind.ready.giving.batches.items ≤ s.room)
+            (sym o) r.room;
+        spare =
+            subst
+            (λ (s : sending.State TransferFrame BehindFrame). more + (frames_in s.queues + s.room) + 1 ≤ most)
+            (sym o) fits;
+        place =
+            record {
+              some = (r.place).some;
+              serves =
+                  subst
+                  (λ (s : sending.State TransferFrame BehindFrame). room_behind own.handle.0 1 s.queues ≤ own.place)
+                  (sym o) (r.place).serves;
+            };
+      }
+
+  -- it goes on by what the peer's Attach leaves to be done
+  module _ (after : Linked) (placed : Placed) (out_new : List SessionFrame)
+      (left : left_to_do answered ≡ left_by prepared.taken) (numbered : placed.link ≡ number)
+      (holds : placed.session ≡ own.session) (handled : placed.handle ≡ answered.handle)
+      (does : (l : ℕ) (aborts : List Abort) → IsMadeReady l own.handle aborts behind.ready.giving
+      → DoesAttached l own.session own.count own.handle own.why aborts answered.kept mid out_mid
+      (behind.events.items ++ attached_told number answered.exchange) after out_new placed.events.items) where
+    to-give-up : IsMadeReady limit own.handle answered.aborts behind.ready.giving
+    to-give-up =
+        subst (λ (h : OutputHandle). IsMadeReady limit h answered.aborts behind.ready.giving)
+        (sym (ap (λ (c : Closing). c.handle) (is.ready).closing))
+        (subst (λ (l : List Abort). IsMadeReady limit closing.handle l behind.ready.giving)
+        (sym (ap (λ (a : Attaching). a.aborts) left ∙ aborts-left prepared.taken)) (is.ready).giving)
+
+    goes-on : DoesAttached limit own.session own.count own.handle own.why answered.aborts answered.kept mid out_mid
+        (behind.events.items ++ attached_told number answered.exchange) after out_new placed.events.items
+    goes-on = does limit answered.aborts to-give-up
+
+    pub asked-answered : AnswersAsked before out limit link input placed after out_new
+    asked-answered =
+        let d = goes-on in
+        let At : ℕ → ℕ → OutputHandle → Error → Type 0 = λ s count h says.
+        AttachedAt limit s count h says answered.aborts answered.kept d.frames d.events mid after in
+        let count_is : own.count ≡ open_count (Some link) =
+        ap (λ (c : Closing). c.count) (is.ready).closing ∙ ap (λ (c : Closing). c.count) closes.is ∙ counts in
+        let is_why : own.why ≡ error_of not_allowed =
+        ap (λ (c : Closing). c.why) (is.ready).closing ∙ ap (λ (c : Closing). c.why) closes.is in
+        record {
+          ready = ready;
+          makes_room = made;
+          answered = answered;
+          handled = sym handled;
+          mid = mid;
+          out_mid = out_mid;
+          answers =
+              subst (λ (n : ℕ). Answers ready out limit n link input answered mid out_mid) (sym numbered) answers;
+          frames = d.frames;
+          behind = d.events;
+          goes =
+              subst (λ (s : ℕ). At s (open_count (Some link)) placed.handle (error_of not_allowed)) (sym holds)
+              (subst (λ (n : ℕ). At own.session n placed.handle (error_of not_allowed)) count_is
+              (subst (λ (h : OutputHandle). At own.session own.count h (error_of not_allowed)) (own-is ∙ sym handled)
+              (subst (λ (w : Error). At own.session own.count own.handle w) is_why d.does)));
+          queued = d.queued;
+          told =
+              d.are_told
+              ∙ ap (λ (l : List Event). (l ++ attached_told number answered.exchange) ++ d.events) is.none
+              ∙ ap (λ (n : ℕ). attached_told n answered.exchange ++ d.events) (sym numbered);
+        }
