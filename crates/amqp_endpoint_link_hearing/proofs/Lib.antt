@@ -4,7 +4,6 @@ mod Lending
 mod Flows
 mod Releases
 mod Doing
-mod AttachDone
 pub mod Heard
 mod Attaches
 mod Detaches
