@@ -21,7 +21,7 @@ PULLS = ["a pull"] * 50
 
 
 class Phase(Enum):
-    """How far a link is, at both ends. The name of a closed one is free."""
+    """How far a link is, at both ends. One at rest can attach again, and the name of a closed one is free."""
 
     LIVE = auto()
     RESTING = auto()
@@ -55,6 +55,10 @@ class Link:
     @property
     def receiver(self):
         return OTHER[self.sender]
+
+    def attach_again(self, session):
+        """It lives again, in this session, and begins without credit."""
+        self.phase, self.session, self.credit, self.granted, self.is_untold = Phase.LIVE, session, 0, 0, False
 
     def tell(self):
         """Its sender hears of the credit that was granted last."""
@@ -118,7 +122,7 @@ class TwoEnds:
         if live < 2 and self.one_in(2):
             return self.attach()
         self.weighted({
-            self.talk: 120, self.carry: 50, self.attach: 8, self.leave: 8, self.begin: 4, self.end: 2,
+            self.talk: 120, self.carry: 50, self.attach: 8, self.leave: 8, self.resume: 8, self.begin: 4, self.end: 2,
             self.connect_anew: 1, self.stray: 5, self.heartbeat: 2,
         })()
 
@@ -263,14 +267,29 @@ class TwoEnds:
         if not session:
             return self.begin()
         link = Link(len(self.links), self.free_name(), session, self.side(), self.dice.choice(SENDER_MODES))
+        self.meet(self.say_attach, link)
+        self.links.append(link)
+
+    def meet(self, say, link):
+        """Both ends have the link attach, so."""
         first = self.side()
-        self.say_attach(first, link)
+        say(first, link)
         if not self.one_in(3):
             self.move_all(first)
-        self.say_attach(OTHER[first], link)
+        say(OTHER[first], link)
         self.move_all(first)
         self.move_all(OTHER[first])
-        self.links.append(link)
+
+    def resume(self):
+        """A link that is at rest attaches again, in whichever session, as a new one does."""
+        link, session = self.any_link(Phase.RESTING), self.any_session()
+        if not link or not session:
+            return self.carry()
+        link.attach_again(session)
+        self.meet(self.say_resume, link)
+
+    def say_resume(self, side, link):
+        self.say(side, f"resume {link.number} {link.session.number}")
 
     def free_name(self):
         """The name of a closed link that no other has, or a new one."""

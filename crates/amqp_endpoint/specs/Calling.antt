@@ -18,7 +18,7 @@ use Rattle.amqp_endpoint_model.specs.Said.{Said, attaching, count, credit_is, do
 use Rattle.amqp_endpoint_model.specs.Said.{message_sent, tried_end, truth, waiting}
 use Rattle.amqp_endpoint_attached.specs.Links.{receiver_by, sender_by}
 use Rattle.amqp_endpoint_linking.specs.Calling.{Accepts, BarsAccepting, BarsBeginning, BarsEnding, Begins, EndsOwn}
-use Rattle.amqp_endpoint_link_calls.specs.Refusals.{BarsAttaching}
+use Rattle.amqp_endpoint_link_calls.specs.Refusals.{BarsAttaching, BarsResuming}
 use Rattle.amqp_endpoint_link_calls.specs.Calling.{BarsDetach, BarsDrain, BarsGrant, Does, DoneAt}
 use Rattle.amqp_endpoint_link_calls.specs.Calling.{detaches, gives_credit, wants_drain}
 use Rattle.amqp_endpoint_link_calls.specs.Closing.{BarsClosing, ClosedAt}
@@ -28,7 +28,7 @@ use Rattle.amqp_endpoint_link_calls.specs.Waiting.{BarsWaiting, TurnTold, held_t
 use Rattle.amqp_endpoint.specs.declared.linked.LinkedSessions.{LinkedSessions}
 use Rattle.amqp_endpoint_link_calls.specs.Disposing.{DisposedAt, DisposedOneAt}
 use Rattle.amqp_endpoint_link_calls.specs.Refusing.{BarsDisposing, BarsDisposingOne, refusal_of}
-use Rattle.amqp_endpoint.specs.Attaching.{LinkAttached}
+use Rattle.amqp_endpoint.specs.Attaching.{LinkAttached, LinkResumed}
 use Rattle.amqp_endpoint.specs.Sending.{BarsSending, SendsMessage}
 
 -- a session begins here, and no link changes
@@ -59,6 +59,11 @@ answer_of (Some e) = Err e
 abbrev pub Attaches : LinkedSessions → ℕ → ℕ → End → ℕ → List Event → List SessionFrame → LinkedSessions → Type 0
 Attaches old limit session link number events frames new =
     LinkAttached old.talk old.links limit session link number events frames new.talk new.links
+
+-- one attaches again
+abbrev pub Resumes : LinkedSessions → ℕ → ℕ → ℕ → ℕ → List Event → List SessionFrame → LinkedSessions → Type 0
+Resumes old limit link session number events frames new =
+    LinkResumed old.talk old.links limit link session number events frames new.talk new.links
 
 -- something is done to the link with a number where a session holds it; where each link is stays
 pub record DoneTo (does : Does) (old : LinkedSessions) (link : ℕ) (frames : List SessionFrame) (new : LinkedSessions)
@@ -108,6 +113,8 @@ Calls old limit (call.AttachSender session settings) (attaching link events) fra
     Attaches old limit session (sender_by settings) link events frames new
 Calls old limit (call.AttachReceiver session settings) (attaching link events) frames new =
     Attaches old limit session (receiver_by settings) link events frames new
+Calls old limit (call.Resume link session) (attaching number events) frames new =
+    Resumes old limit link session number events frames new
 Calls old limit (call.Detach link) done frames new = DoneTo (detaches false) old link frames new
 Calls old limit (call.CloseLink link) (link_closed events) frames new =
     ClosedAt (link_place old.links link) old.talk old.links link [] events new.talk new.links frames
@@ -137,6 +144,7 @@ BarsCall old limit (call.AttachSender session settings) e =
     BarsAttaching limit old.talk old.links session (sender_by settings) e
 BarsCall old limit (call.AttachReceiver session settings) e =
     BarsAttaching limit old.talk old.links session (receiver_by settings) e
+BarsCall old limit (call.Resume link session) e = BarsResuming limit old.talk old.links link session e
 BarsCall old limit (call.Detach link) e = BarsDetach old.talk (link_place old.links link) e
 BarsCall old limit (call.CloseLink link) e = BarsClosing old.talk (link_place old.links link) e
 BarsCall old limit (call.Grant link credit) e = BarsGrant old.talk (link_place old.links link) credit e

@@ -2,9 +2,9 @@
 ghost use Rattle.std.specs.Prelude.{◌≡◌, ◌≤◌, IfErr, IfOk, OnErr};
 ghost use Rattle.amqp_endpoint_conversation.specs.Going.{Goes, Rests};
 ghost use Rattle.amqp_endpoint_attached.specs.Links.{receiver_by, sender_by};
-ghost use Rattle.amqp_endpoint_link_calls.specs.Refusals.{BarsAttaching};
+ghost use Rattle.amqp_endpoint_link_calls.specs.Refusals.{BarsAttaching, BarsResuming};
 ghost use Rattle.amqp_endpoint_linking.specs.Handed.{Hands};
-ghost use Rattle.amqp_endpoint.specs.Attaching.{LinkAttached};
+ghost use Rattle.amqp_endpoint.specs.Attaching.{LinkAttached, LinkResumed};
 
 use amqp_endpoint_conversation::Conversation;
 use amqp_endpoint_link_calls as link;
@@ -63,6 +63,31 @@ pub(crate) fn attach_receiver(
     ensures rests { Rests talk.old talk.new out.old.items out.new.items }
 {
     let placed = link::attach_receiver(talk, links, alloc, limit, session, settings, out)?;
+    Ok(told(placed))
+}
+
+/// Attaches the link with this number again, which is at rest, in the session with that number, and answers its number
+/// with what comes of it at once (part 2, 2.6.3, 2.6.13).
+///
+/// It is refused as `amqp_endpoint_link_calls::resume` is. Nothing changes then.
+pub(crate) fn resume(
+    talk: &mut Conversation<Numbered<LinkEnd>>,
+    links: &mut Links<LinkEnd>,
+    alloc: Global,
+    limit: u32,
+    link: u64,
+    session: u64,
+    out: &mut VecDeque<SessionFrame>,
+) -> Result<Attaching, EndpointError>
+    ensures ok { IfOk result (λ a. Hands (λ frames. LinkResumed talk.old links.old limit link session a.link
+        a.events.items frames talk.new links.new) out.old.items out.new.items) }
+    ensures err { IfErr result (BarsResuming limit talk.old links.old link session) }
+    ensures kept { OnErr result
+        ((talk.new ≡ talk.old) × (links.new ≡ links.old) × (out.new.items ≡ out.old.items)) }
+    ensures goes { 512 ≤ limit → Goes limit talk.old talk.new out.old.items out.new.items }
+    ensures rests { Rests talk.old talk.new out.old.items out.new.items }
+{
+    let placed = link::resume(talk, links, alloc, limit, link, session, out)?;
     Ok(told(placed))
 }
 

@@ -1,5 +1,5 @@
 //! What the sessions do for their connection.
-use crate::attaching::{attach_receiver, attach_sender};
+use crate::attaching::{attach_receiver, attach_sender, resume};
 use crate::hearing::hear;
 use crate::sending::{send, send_refusal};
 use amqp_endpoint_conversation::Conversation;
@@ -169,6 +169,25 @@ impl SessionRelay for LinkedSessions {
             limit,
             session,
             settings,
+            out,
+        )
+    }
+
+    fn resume(
+        &mut self,
+        alloc: Global,
+        limit: u32,
+        link: u64,
+        session: u64,
+        out: &mut VecDeque<SessionFrame>,
+    ) -> Result<Attaching, EndpointError> {
+        resume(
+            &mut self.talk,
+            &mut self.links,
+            alloc,
+            limit,
+            link,
+            session,
             out,
         )
     }

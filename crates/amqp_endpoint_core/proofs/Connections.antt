@@ -9,7 +9,7 @@ use Rattle.amqp_endpoint_model.specs.declared.call.Call.TheVariants.{AcceptBegin
 use Rattle.amqp_endpoint_model.specs.declared.call.Call.TheVariants.{AttachSender, AttachReceiver, Detach as DetachCall}
 use Rattle.amqp_endpoint_model.specs.declared.call.Call.TheVariants.{CloseLink, Grant, Drain, Credit, HeldBack}
 use Rattle.amqp_endpoint_model.specs.declared.call.Call.TheVariants.{Waiting as WaitingCall}
-use Rattle.amqp_endpoint_model.specs.declared.call.Call.TheVariants.{Send, Dispose, DisposeAll}
+use Rattle.amqp_endpoint_model.specs.declared.call.Call.TheVariants.{Resume, Send, Dispose, DisposeAll}
 use Rattle.amqp_endpoint_model.specs.declared.error.EndpointError.{EndpointError}
 use Rattle.amqp_endpoint_model.specs.declared.error.EndpointError.TheVariants.{Memory, AlreadyConnected, NotConnected, IllegalState, NumbersUsedUp, ProtocolHeaderMismatch, SizeUnder8, SizeOverLimit, PeerLimitUnder512, Frame as FrameFault, Connection, Session}
 use Rattle.amqp_endpoint_model.specs.declared.event.Event.{Event}
@@ -328,6 +328,9 @@ module _ {S : Type 0} (does : Relations S) where
   own-stands (AttachReceiver session settings) (attaching link events) old new p f σ own step s =
       sessions-stand (AttachReceiver session settings) (attaching link events) old new p f σ.fed step s
   own-stands (AttachReceiver session settings) said old new p f σ own step s = absurd step
+  own-stands (Resume link session) (attaching number events) old new p f σ own step s =
+      sessions-stand (Resume link session) (attaching number events) old new p f σ.fed step s
+  own-stands (Resume link session) said old new p f σ own step s = absurd step
   own-stands (DetachCall link) done old new p f σ own step s =
       sessions-stand (DetachCall link) done old new p f σ.fed step s
   own-stands (DetachCall link) said old new p f σ own step s = absurd step

@@ -9,7 +9,7 @@ use Rattle.amqp_endpoint_model.specs.declared.call.Call.{Call}
 use Rattle.amqp_endpoint_model.specs.declared.call.Call.TheVariants.{Begin as BeginCall, AcceptBegin, End, IsEnded}
 use Rattle.amqp_endpoint_model.specs.declared.call.Call.TheVariants.{TryEnd, AttachSender, AttachReceiver, Detach}
 use Rattle.amqp_endpoint_model.specs.declared.call.Call.TheVariants.{CloseLink, Grant, Drain, Credit, HeldBack, Waiting}
-use Rattle.amqp_endpoint_model.specs.declared.call.Call.TheVariants.{Send, Dispose, DisposeAll}
+use Rattle.amqp_endpoint_model.specs.declared.call.Call.TheVariants.{Resume, Send, Dispose, DisposeAll}
 use Rattle.amqp_endpoint_model.specs.declared.error.EndpointError.{EndpointError}
 use Rattle.amqp_endpoint_model.specs.declared.error.EndpointError.TheVariants.{Connection, UnknownLink, UnknownSession}
 use Rattle.amqp_endpoint_model.specs.Relay.{Relations}
@@ -40,6 +40,7 @@ call_refusal (AcceptBegin channel) = Some (Connection NotImplemented)
 call_refusal (End number) = Some UnknownSession
 call_refusal (AttachSender session settings) = Some UnknownSession
 call_refusal (AttachReceiver session settings) = Some UnknownSession
+call_refusal (Resume link session) = Some UnknownLink
 call_refusal (Detach link) = Some UnknownLink
 call_refusal (CloseLink link) = Some UnknownLink
 call_refusal (Grant link credit) = Some UnknownLink

@@ -349,6 +349,7 @@ impl<S: SessionRelay> Endpoint<S> {
             Call::AttachReceiver(session, settings) => {
                 attaching(self.attach_receiver(*session, settings))
             }
+            Call::Resume(link, session) => attaching(self.resume(*link, *session)),
             Call::Detach(link) => done(self.detach(*link)),
             Call::CloseLink(link) => link_closed(self.close_link(*link)),
             Call::Grant(link, credit) => credit_is(self.grant(*link, *credit)),

@@ -112,6 +112,17 @@ impl SessionRelay for NoSessions {
         Err(EndpointError::UnknownSession)
     }
 
+    fn resume(
+        &mut self,
+        _alloc: Global,
+        _limit: u32,
+        _link: u64,
+        _session: u64,
+        _out: &mut VecDeque<SessionFrame>,
+    ) -> Result<Attaching, EndpointError> {
+        Err(EndpointError::UnknownLink)
+    }
+
     fn detach(
         &mut self,
         _alloc: Global,

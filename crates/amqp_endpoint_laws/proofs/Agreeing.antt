@@ -7,7 +7,7 @@ use Rattle.amqp_endpoint_tables.specs.OwnLinks.{slot_at}
 use Rattle.amqp_endpoint_tables.specs.LinkState.{State, held_at}
 use Rattle.amqp_endpoint_tables.proofs.OwningLinks.{same_number}
 use Rattle.amqp_endpoint_laws.specs.Held.{Agrees, IsHeldThere, Numbers}
-use Rattle.amqp_endpoint_laws.proofs.Parted.{Entered, Parted, Shut, holder}
+use Rattle.amqp_endpoint_laws.proofs.Parted.{ComesIn, Parted, Shut, holder}
 
 -- the same numbers stand everywhere
 abbrev pub Same : Numbers → Numbers → Type 0
@@ -106,7 +106,7 @@ module _ {L : Type 0} (old new : Numbers) (links links_new : State L) where
     pub other :
         (n h : ℕ) → ((n ≡ session) × (h ≡ handle)) ⊎ (new n h ≡ old n h)
 
-  module _ (number session handle : ℕ) (t : Entered number session (record { 0 = handle }) links links_new)
+  module _ (number session handle : ℕ) (t : ComesIn number session (record { 0 = handle }) links links_new)
       (s : Enters number session handle) (a : Agrees old links) where
     enter-held : (link n : ℕ) (h : OutputHandle) → held_at links_new link ≡ Some (n, h) → (b : Bool)
         → (link == number) ≡ b → new n h.0 ≡ Some link
@@ -143,9 +143,9 @@ module _ {L : Type 0} (old new : Numbers) (links links_new : State L) where
         by false is (inr closed) = inr (t.other link is ∙ closed)
         by true is (inl held) =
             absurd
-            (none-some _ (sym (ap (held_at links) (same_number link number is) ∙ ap holder t.none) ∙ held))
+            (none-some _ (sym (ap (held_at links) (same_number link number is) ∙ t.vacant) ∙ held))
         by true is (inr closed) =
-            absurd (none-some _ (sym (ap (slot_at links) (same_number link number is) ∙ t.none) ∙ closed))
+            absurd (t.unclosed (ap (slot_at links) (sym (same_number link number is)) ∙ closed))
 
     pub enter : Agrees new links_new
     enter =

@@ -25,7 +25,9 @@ use Rattle.amqp_endpoint_attached.specs.Links.{own_attach, receiver_by, sender_b
 use Rattle.amqp_endpoint_conversation.specs.Ending.{EndReply, end_frame}
 use Rattle.amqp_endpoint_conversation.specs.Faults.{fault_error}
 use Rattle.amqp_endpoint_laws.specs.Deeds.{Deed, Does, IsDeed, Takes}
-use Rattle.amqp_endpoint.specs.Attaching.{LinkAttached}
+use Rattle.amqp_endpoint_link_calls.specs.Naming.{name_of}
+use Rattle.amqp_endpoint_tables.specs.LinkState.{rest_at}
+use Rattle.amqp_endpoint_laws.proofs.Placing.{IsPlaced, is-again, is-new, own-handle, own-name}
 use Rattle.amqp_endpoint.specs.Does.{linked}
 use Rattle.amqp_endpoint.specs.declared.linked.LinkedSessions.{LinkedSessions}
 use Rattle.amqp_endpoint_linking.specs.Linking.{Link, Session, Stood, Talk}
@@ -45,7 +47,8 @@ use Rattle.amqp_endpoint_laws.specs.Reading.{Comes, Goes, Wired}
 use Rattle.amqp_endpoint_tables.specs.declared.place.Place.TheVariants.{Asked, Live, Ending, Over}
 use Rattle.amqp_endpoint_conversation.specs.Inside.{AreOn, IsPlain}
 use Rattle.amqp_endpoint_conversation.proofs.Inside.{at-once-on, both-on, left-on}
-use Rattle.amqp_endpoint_laws.specs.Attachments.{attach_in, attached_in, attaches_in, gone_in, named_by, names_in}
+use Rattle.amqp_endpoint_laws.specs.Attachments.{attach_in, attached_in, attaches_in, gone_in, named_by, named_if}
+use Rattle.amqp_endpoint_laws.specs.Attachments.{names_in}
 use Rattle.amqp_endpoint_laws.specs.Queued.{AttachesFirst}
 use Rattle.amqp_endpoint_laws.proofs.AttachedBehind.{attaches-inside}
 use Rattle.amqp_endpoint_laws.proofs.PassedCalled.{IsAttaching, called}
@@ -202,7 +205,7 @@ pub record AttachesOnce (link : End) (handle : OutputHandle) (frames : List Sess
 
 module _ (old new : LinkedSessions) (limit number : ℕ) (it : End) (link : ℕ) (events : List Event)
     (frames : List SessionFrame)
-    (a : LinkAttached old.talk old.links limit number it link events frames new.talk new.links) where
+    (a : IsPlaced old.talk old.links limit number it link events frames new.talk new.links) where
   pub attaches-once : AttachesOnce it a.placed.handle frames
   attaches-once =
       let l = a.attaches in
@@ -244,19 +247,32 @@ take-none limit frame frames events old new h =
 none-named : (frames : List SessionFrame) → attaches_in frames ≡ [] → names_in frames ≡ []
 none-named frames none = ap (λ (xs : List Attach). map (λ (x : Attach). x.name) xs) none
 
+-- the name of one that was at rest
+named-so : (o : Option End) (it : End) → o ≡ Some it → name_of it ∷ [] ≡ named_if o
+named-so o it is = ap named_if (sym is)
+
 call-names : (it : Call) (answer : Said) (old new : LinkedSessions) (limit : ℕ) (frames : List SessionFrame)
-    → IsDeed linked old (Does limit it answer frames) new → names_in frames ≡ named_by it
+    → IsDeed linked old (Does limit it answer frames) new → names_in frames ≡ named_by old.links it
 call-names (call.AttachSender n its) (attaching link events) old new limit frames d =
-    attaches-alone old new limit n (sender_by its) link events frames d.0 its.name refl
+    attaches-alone old new limit n (sender_by its) link events frames
+    (is-new old.talk new.talk old.links new.links limit n (sender_by its) link events frames d.0) its.name refl
 call-names (call.AttachReceiver n its) (attaching link events) old new limit frames d =
-    attaches-alone old new limit n (receiver_by its) link events frames d.0 its.name refl
+    attaches-alone old new limit n (receiver_by its) link events frames
+    (is-new old.talk new.talk old.links new.links limit n (receiver_by its) link events frames d.0) its.name refl
+call-names (call.Resume link n) (attaching number events) old new limit frames d =
+    let it = d.0.resumes.link in
+    attaches-alone old new limit n it link events frames
+    (is-again old.talk new.talk old.links new.links limit n link number events frames d.0) (name_of it)
+    (own-name it d.0.placed.handle)
+    ∙ named-so (rest_at old.links link) it d.0.resumes.may.rests
 call-names (call.AttachSender n its) answer old new limit frames d = absurd d.0
 call-names (call.AttachReceiver n its) answer old new limit frames d = absurd d.0
+call-names (call.Resume link n) answer old new limit frames d = absurd d.0
 call-names it answer old new limit frames d =
     none-named frames (call-none it answer old new limit frames (λ attaches. attaches) d)
 
 pub deed-names : (old new : LinkedSessions) (deed : Deed) → IsDeed linked old deed new
-    → names_in (gone_in deed) ≡ attached_in deed
+    → names_in (gone_in deed) ≡ attached_in old deed
 deed-names old new (Takes limit frame frames events) d =
     none-named frames (take-none limit frame frames events old new d)
 deed-names old new (Does limit it answer frames) d = call-names it answer old new limit frames d
@@ -279,27 +295,42 @@ once-first link handle name frames once own is =
 abbrev SomeFirst : List ℕ → List SessionFrame → Type 0
 SomeFirst name frames = (handle : OutputHandle) × AttachesFirst handle name frames
 
-one-name : (name other : List ℕ) → name ∷ [] ≡ other ∷ [] → name ≡ other
+pub one-name : (name other : List ℕ) → name ∷ [] ≡ other ∷ [] → name ≡ other
 one-name name other is = cc
 
 call-first : (it : Call) (answer : Said) (old new : LinkedSessions) (limit : ℕ) (frames : List SessionFrame)
-    (name : List ℕ) → IsDeed linked old (Does limit it answer frames) new → named_by it ≡ name ∷ []
+    (name : List ℕ) → IsDeed linked old (Does limit it answer frames) new → named_by old.links it ≡ name ∷ []
     → SomeFirst name frames
 call-first (call.AttachSender n its) (attaching link events) old new limit frames name d is = (
   _,
   once-first (sender_by its) _ name frames
-      (attaches-once old new limit n (sender_by its) link events frames d.0) refl (one-name its.name name is),
+      (attaches-once old new limit n (sender_by its) link events frames
+      (is-new old.talk new.talk old.links new.links limit n (sender_by its) link events frames d.0))
+      refl (one-name its.name name is),
 )
 call-first (call.AttachReceiver n its) (attaching link events) old new limit frames name d is = (
   _,
   once-first (receiver_by its) _ name frames
-      (attaches-once old new limit n (receiver_by its) link events frames d.0) refl (one-name its.name name is),
+      (attaches-once old new limit n (receiver_by its) link events frames
+      (is-new old.talk new.talk old.links new.links limit n (receiver_by its) link events frames d.0))
+      refl (one-name its.name name is),
 )
+call-first (call.Resume link n) (attaching number events) old new limit frames name d is =
+    let it = d.0.resumes.link in (
+      d.0.placed.handle,
+      once-first it d.0.placed.handle name frames
+          (attaches-once old new limit n it link events frames
+          (is-again old.talk new.talk old.links new.links limit n link number events frames d.0))
+          (own-handle it d.0.placed.handle)
+          (own-name it d.0.placed.handle
+          ∙ one-name (name_of it) name (named-so (rest_at old.links link) it d.0.resumes.may.rests ∙ is)),
+    )
 call-first (call.AttachSender n its) answer old new limit frames name d is = absurd d.0
 call-first (call.AttachReceiver n its) answer old new limit frames name d is = absurd d.0
+call-first (call.Resume link n) answer old new limit frames name d is = absurd d.0
 call-first it answer old new limit frames name d is = absurd cc
 
 pub deed-first : (old new : LinkedSessions) (deed : Deed) (name : List ℕ) → IsDeed linked old deed new
-    → attached_in deed ≡ name ∷ [] → (handle : OutputHandle) × AttachesFirst handle name (gone_in deed)
+    → attached_in old deed ≡ name ∷ [] → (handle : OutputHandle) × AttachesFirst handle name (gone_in deed)
 deed-first old new (Does limit it answer frames) name d is = call-first it answer old new limit frames name d is
 deed-first old new deed name d is = absurd cc

@@ -1,6 +1,6 @@
 -- What an attachment of a sending link has behind it in its session, and what waits, says what the link accepted.
 use Rattle.std.proofs.Common.{◌≡◌, ◌≢◌, ◌==◌, inl, inr, ℕ, Bool, true, false, List, [], ◌∷◌, ◌++◌, Some, None, ap}
-use Rattle.std.proofs.Common.{Option, append_assoc, refl, sym, subst, ◌∙◌}
+use Rattle.std.proofs.Common.{append_assoc, refl, sym, subst, ◌∙◌}
 use Rattle.std.specs.Prelude.{if◌then◌else◌}
 use Rattle.std.proofs.lemmas.Bool.Decides.{eqb_tells}
 use Rattle.amqp_session_types.specs.declared.handles.OutputHandle.{OutputHandle}
@@ -9,7 +9,10 @@ use Rattle.amqp_session_performatives.specs.declared.session_frame.SessionFrame.
 use Rattle.amqp_session_frames.specs.declared.frame.FrameBody.{FrameBody}
 use Rattle.amqp_link.specs.declared.end.End.{End}
 use Rattle.amqp_link_base.specs.Readings.{Piece}
-use Rattle.amqp_endpoint_attached.specs.Links.{own_attach, receiver_by, sender_by}
+use Rattle.amqp_endpoint_attached.specs.Ends.{role_of}
+use Rattle.amqp_endpoint_attached.specs.Links.{receiver_by, sender_by}
+use Rattle.amqp_session_types.specs.declared.modes.Role.TheVariants.{Sender}
+use Rattle.amqp_endpoint_link_calls.specs.Naming.{name_of}
 use Rattle.amqp_endpoint_laws.specs.Deeds.{AreDone, Deed, Does, IsDeed, Takes}
 use Rattle.amqp_endpoint.specs.Attaching.{LinkAttached}
 use Rattle.amqp_endpoint.specs.Does.{linked}
@@ -22,21 +25,21 @@ use Rattle.amqp_endpoint_model.specs.declared.call.Call.TheVariants as call
 use Rattle.amqp_endpoint_model.specs.declared.event.Event.{Event}
 use Rattle.amqp_endpoint_model.specs.declared.settings.Settings.{Settings}
 use Rattle.amqp_endpoint_tables.specs.OwnLinks.{slot_at}
-use Rattle.amqp_endpoint_tables.specs.LinkState.{open_of, place_at as link_place, place_of}
+use Rattle.amqp_endpoint_tables.specs.LinkState.{held_at, place_at as link_place}
 use Rattle.amqp_endpoint_tables.specs.declared.link_place.LinkPlace.TheVariants.{Held}
-use Rattle.amqp_endpoint_tables.specs.declared.link_place.Named.{Named}
 use Rattle.amqp_endpoint_tables.specs.State.{live_at}
 use Rattle.amqp_endpoint_tables.proofs.Owning.{same_number}
-use Rattle.amqp_endpoint_model.specs.declared.link.LinkSettings.{LinkSettings}
 use Rattle.amqp_endpoint_conversation.specs.Windows.{Came, Passing, went}
 use Rattle.amqp_endpoint_laws.specs.Attachments.{attaches_in, attachment, bodies_of, uses}
 use Rattle.amqp_endpoint_laws.specs.Passed.{PassesIn, called_in, is_it, passes_in, sent_in, session_taking}
 use Rattle.amqp_endpoint_laws.specs.Queued.{SayMessages, messages_by, pieces_on, pieces_waiting}
 use Rattle.amqp_endpoint_laws.specs.Handed.{pieces_come}
+use Rattle.amqp_endpoint_laws.specs.Resumed.{IsResumed, NeverResumed, Resumes}
 use Rattle.amqp_endpoint_laws.specs.Taken.{NoneAttaches}
 use Rattle.amqp_endpoint_laws.proofs.Attachments.{NoneTakes, attaches-both, bodies-both, none-both, none-comes}
 use Rattle.amqp_endpoint_laws.proofs.Attachments.{pieces-alike}
 use Rattle.amqp_endpoint_laws.proofs.AttachmentsCalled.{AttachesOnce, attaches-once, call-none, take-none}
+use Rattle.amqp_endpoint_laws.proofs.Placing.{IsPlaced, held-place, is-again, is-new, own-handle, own-name, own-role}
 use Rattle.amqp_endpoint_laws.proofs.GivenUp.{AllAborted}
 use Rattle.amqp_endpoint_laws.proofs.LinksKept.{BackGoesOn, FinishedGoesOn, LeftGoesOn}
 use Rattle.amqp_endpoint_laws.proofs.LinksStay.{entered-before, held-since}
@@ -64,26 +67,21 @@ module _ (handles_apart : HandlesApart) (back_on : BackGoesOn) (left_on : LeftGo
       -- another link that attaches in its session, while it is held there
       module _ (old new : LinkedSessions) (limit : ℕ) (it : End) (other : ℕ) (events : List Event)
           (frames : List SessionFrame)
-          (a : LinkAttached old.talk old.links limit number it other events frames new.talk new.links)
-          (own : (own_attach it a.placed.handle).handle.0 ≡ a.placed.handle.0) (reached : Reached new)
-          (entered : slot_at old.links link ≢ None) (held : IsHere new) where
+          (a : IsPlaced old.talk old.links limit number it other events frames new.talk new.links)
+          (reached : Reached new) (apart : link ≢ other) (held : IsHere new) where
         other-handle : a.placed.handle.0 ≡ handle.0 → ⊥
         other-handle same =
-            let (none, some) = link-entered old new limit number it other events frames a in
             let there : link_place new.links other ≡ Some (Held number handle) =
-            ap (λ (o : Option (Option (Named End))). place_of (open_of o)) some
+            held-place (link_place new.links other) number a.placed.handle (ap (held_at new.links) a.numbered ∙ a.held)
             ∙ ap (λ (h : ℕ). Some (Held number (record { 0 = h }))) same in
-            entered
-            (ap (λ (k : ℕ). slot_at old.links k)
-            (sym (reached-apart handles_apart new reached other link number handle there held))
-            ∙ none)
+            apart (sym (reached-apart handles_apart new reached other link number handle there held))
 
         other-takes : NoneIn frames
         other-takes =
             let once = attaches-once old new limit number it other events frames a in
             let apart : (once.attach.handle.0 == handle.0) ≡ false =
             elim (eqb_tells once.attach.handle.0 handle.0) [
-              | inl same ↦ absurd (other-handle (sym (once.handled ∙ own) ∙ same.1))
+              | inl same ↦ absurd (other-handle (sym (once.handled ∙ own-handle it a.placed.handle) ∙ same.1))
               | inr differ ↦ differ.0
             ] in
             subst (λ (xs : List Attach). NoneTakes handle.0 xs)
@@ -106,120 +104,137 @@ module _ (handles_apart : HandlesApart) (back_on : BackGoesOn) (left_on : LeftGo
       module _ (old new : LinkedSessions) (reached : Reached new) (entered : slot_at old.links link ≢ None)
           (held : IsHere new) where
         attached-none : (limit n : ℕ) (it : End) (other : ℕ) (events : List Event) (frames : List SessionFrame)
-            (a : LinkAttached old.talk old.links limit n it other events frames new.talk new.links)
-            → (own_attach it a.placed.handle).handle.0 ≡ a.placed.handle.0
+            → IsPlaced old.talk old.links limit n it other events frames new.talk new.links → link ≢ other
             → NoneIn (sent_in (if number == n then went frames else []))
-        attached-none limit n it other events frames a own =
+        attached-none limit n it other events frames a apart =
             went-none (number == n) frames
-            (λ e. by (sym (same_number number n e)) a own)
+            (λ e. by (sym (same_number number n e)) a)
           where
             by : {n : ℕ} → n ≡ number
-                → (a : LinkAttached old.talk old.links limit n it other events frames new.talk new.links)
-                → (own_attach it a.placed.handle).handle.0 ≡ a.placed.handle.0 → NoneIn frames
-            by {n} same a own =
+                → IsPlaced old.talk old.links limit n it other events frames new.talk new.links → NoneIn frames
+            by {n} same a =
                 let P : ℕ → Type 0 = λ (m : ℕ).
-                (b : LinkAttached old.talk old.links limit m it other events frames new.talk new.links)
-                → (own_attach it b.placed.handle).handle.0 ≡ b.placed.handle.0 → NoneIn frames in
+                IsPlaced old.talk old.links limit m it other events frames new.talk new.links → NoneIn frames in
                 subst P (sym same)
-                (λ b o. other-takes old new limit it other events frames b o reached entered held) a own
+                (λ b. other-takes old new limit it other events frames b reached apart held) a
 
-        call-takes : (it : Call) (answer : Said) (limit : ℕ) (frames : List SessionFrame)
+        -- another one is new
+        new-apart : (limit n : ℕ) (it : End) (other : ℕ) (events : List Event) (frames : List SessionFrame)
+            → LinkAttached old.talk old.links limit n it other events frames new.talk new.links → link ≢ other
+        new-apart limit n it other events frames a same =
+            entered
+            (ap (λ (k : ℕ). slot_at old.links k) same ∙ (link-entered old new limit n it other events frames a).0)
+
+        call-takes : (it : Call) (answer : Said) (limit : ℕ) (frames : List SessionFrame) → (Resumes link it → ⊥)
             → IsDeed linked old (Does limit it answer frames) new
             → NoneIn (sent_in (if is_it (called_in old it answer) number then went frames else []))
-        call-takes (call.AttachSender n its) (attaching other events) limit frames d =
-            attached-none limit n (sender_by its) other events frames d.0 refl
-        call-takes (call.AttachReceiver n its) (attaching other events) limit frames d =
-            attached-none limit n (receiver_by its) other events frames d.0 refl
-        call-takes (call.AttachSender n its) answer limit frames d = absurd d.0
-        call-takes (call.AttachReceiver n its) answer limit frames d = absurd d.0
-        call-takes it answer limit frames d =
+        call-takes (call.AttachSender n its) (attaching other events) limit frames never d =
+            attached-none limit n (sender_by its) other events frames
+            (is-new old.talk new.talk old.links new.links limit n (sender_by its) other events frames d.0)
+            (new-apart limit n (sender_by its) other events frames d.0)
+        call-takes (call.AttachReceiver n its) (attaching other events) limit frames never d =
+            attached-none limit n (receiver_by its) other events frames
+            (is-new old.talk new.talk old.links new.links limit n (receiver_by its) other events frames d.0)
+            (new-apart limit n (receiver_by its) other events frames d.0)
+        call-takes (call.Resume other n) (attaching one events) limit frames never d =
+            attached-none limit n d.0.resumes.link other events frames
+            (is-again old.talk new.talk old.links new.links limit n other one events frames d.0)
+            (λ same. never (sym same))
+        call-takes (call.AttachSender n its) answer limit frames never d = absurd d.0
+        call-takes (call.AttachReceiver n its) answer limit frames never d = absurd d.0
+        call-takes (call.Resume other n) answer limit frames never d = absurd d.0
+        call-takes it answer limit frames never d =
             went-none (is_it (called_in old it answer) number) frames
             (λ e. none-of frames (call-none it answer old new limit frames (λ attaches. attaches) d))
 
-        deed-takes : (deed : Deed) → IsDeed linked old deed new → NoneIn (sent_in (passes_in number old deed))
-        deed-takes (Takes limit frame frames events) d =
+        deed-takes : (deed : Deed) → (IsResumed link deed → ⊥) → IsDeed linked old deed new
+            → NoneIn (sent_in (passes_in number old deed))
+        deed-takes (Takes limit frame frames events) never d =
             came-none (is_it (session_taking old frame.channel frame.body) number) frame.body frames
             (take-none limit frame frames events old new d)
-        deed-takes (Does limit it answer frames) d = call-takes it answer limit frames d
-        deed-takes deed d = tt
+        deed-takes (Does limit it answer frames) never d = call-takes it answer limit frames never d
+        deed-takes deed never d = tt
 
-      none-since : (deeds : List Deed) (old new : LinkedSessions) (later : List Passing) → Reached old
-          → PassesIn number old deeds new later → slot_at old.links link ≢ None → IsHere new → NoneIn (sent_in later)
-      none-since [] old new later reached (same, none) entered held =
+      none-since : (deeds : List Deed) (old new : LinkedSessions) (later : List Passing) → NeverResumed link deeds
+          → Reached old → PassesIn number old deeds new later → slot_at old.links link ≢ None → IsHere new → NoneIn (sent_in later)
+      none-since [] old new later never reached (same, none) entered held =
           subst (λ (ps : List Passing). NoneIn (sent_in ps)) (sym none) tt
-      none-since (deed ∷ deeds) old new later reached (mid, rest, one, others, is) entered held =
+      none-since (deed ∷ deeds) old new later never reached (mid, rest, one, others, is) entered held =
           let reached-mid : Reached mid = reached-on old mid deed one reached in
           let entered-mid : slot_at mid.links link ≢ None =
           entered-before link number handle back_on left_on finished_on deed old mid one entered in
           let held-mid : IsHere mid =
-          held-since link number handle back_on left_on finished_on deeds mid new
+          held-since link number handle back_on left_on finished_on deeds mid new never.1
           (done-of number deeds mid new rest others) entered-mid held in
           subst (λ (ps : List Passing). NoneIn (sent_in ps)) (sym is)
           (subst (λ (fs : List SessionFrame). NoneIn fs) (sym (sent-append (passes_in number old deed) rest))
           (subst (λ (xs : List Attach). NoneTakes handle.0 xs)
           (sym (attaches-both (sent_in (passes_in number old deed)) (sent_in rest)))
           (none-both handle.0 (attaches_in (sent_in (passes_in number old deed))) (attaches_in (sent_in rest))
-          (deed-takes old mid reached-mid entered held-mid deed one)
-          (none-since deeds mid new rest reached-mid others entered-mid held))))
+          (deed-takes old mid reached-mid entered held-mid deed never.0 one)
+          (none-since deeds mid new rest never.1 reached-mid others entered-mid held))))
 
     module _ (sessions old new end : LinkedSessions) (settings : Settings) (before since_then : List Deed)
-        (number link limit : ℕ) (its : LinkSettings) (events : List Event) (frames : List SessionFrame)
+        (number link limit : ℕ) (it : End) (events : List Event) (frames : List SessionFrame) (deed : Deed)
         (first passings : List Passing) (handle : OutputHandle) (session : Session)
         (fresh : IsNew linked settings sessions) (passed : PassesIn number sessions before old first)
-        (d : IsDeed linked old (Does limit (call.AttachSender number its) (attaching link events) frames) new)
+        (a : IsPlaced old.talk old.links limit number it link events frames new.talk new.links)
+        (sends : role_of it ≡ Sender) (d : IsDeed linked old deed new)
         (passes : PassesIn number new since_then end passings)
         (held : link_place end.links link ≡ Some (Held number handle))
-        (live : live_at end.talk.sessions number ≡ Some session)
+        (live : live_at end.talk.sessions number ≡ Some session) (never : NeverResumed link since_then)
       where
         done : AreDone linked sessions before old
         done = done-of number before sessions old first passed
 
-        abbrev once : AttachesOnce (sender_by its) (d.0).placed.handle frames
-        once = attaches-once old new limit number (sender_by its) link events frames d.0
+        abbrev once : AttachesOnce it a.placed.handle frames
+        once = attaches-once old new limit number it link events frames a
 
         -- by the call itself deliveries are given up alone
         given-up : AllAborted (pieces_on handle.0 once.later)
         given-up =
             subst (λ (fs : List SessionFrame). AllAborted (pieces_on handle.0 fs)) once.are
             (aborted-sent handles_apart back_on left_on finished_on sessions old new end settings before since_then
-            number link limit its events frames passings handle fresh done d passes held)
+            number link limit it events frames deed passings handle fresh done a d passes held never)
 
         -- it is read as what goes with its handle
-        attachment-is : attachment its.name (uses its.name (bodies_of (sent_in first)))
+        attachment-is : attachment (name_of it) (uses (name_of it) (bodies_of (sent_in first)))
             (bodies_of (sent_in first ++ frames ++ sent_in passings))
             ≡ pieces_on handle.0 once.later ++ pieces_on handle.0 (sent_in passings)
         attachment-is =
             let own : once.attach.handle.0 ≡ handle.0 =
             once.handled
+            ∙ own-handle it a.placed.handle
             ∙ ap (λ (h : OutputHandle). h.0)
             (same-handle handles_apart back_on left_on finished_on sessions old new end settings before since_then
-            number link limit its events frames passings handle fresh done d passes held) in
+            number link limit it events frames deed passings handle fresh done a d passes held never) in
             let later : List SessionFrame = once.later ++ sent_in passings in
             let none : NoneTakes handle.0 (attaches_in later) =
             subst (λ (xs : List Attach). NoneTakes handle.0 xs)
             (sym
             (attaches-both once.later (sent_in passings)
             ∙ ap (λ (xs : List Attach). xs ++ attaches_in (sent_in passings)) once.none))
-            (none-since link number handle since_then new end passings
+            (none-since link number handle since_then new end passings never
             (reached-new handles_apart back_on left_on finished_on sessions old new end settings before since_then
-            number link limit its events frames passings handle fresh done d passes held)
+            number link limit it events frames deed passings handle fresh done a d passes held never)
             passes
             (is-entered handles_apart back_on left_on finished_on sessions old new end settings before since_then number
-            link limit its events frames passings handle fresh done d passes held)
+            link limit it events frames deed passings handle fresh done a d passes held never)
             held) in
-            ap (λ (came : List FrameBody). attachment its.name (uses its.name (bodies_of (sent_in first))) came)
+            ap (λ (came : List FrameBody). attachment (name_of it) (uses (name_of it) (bodies_of (sent_in first))) came)
             (ap (λ (fs : List SessionFrame). bodies_of (sent_in first ++ fs ++ sent_in passings)) once.are
             ∙ ap bodies_of (append_assoc (sent_in first) _ (sent_in passings))
             ∙ bodies-both (sent_in first) _)
-            ∙ attachment-read its.name once.attach (bodies_of (sent_in first)) (bodies_of later)
-            (named-so its.name once.attach once.named once.sided)
+            ∙ attachment-read (name_of it) once.attach (bodies_of (sent_in first)) (bodies_of later)
+            (named-so (name_of it) once.attach (once.named ∙ own-name it a.placed.handle)
+            (once.sided ∙ own-role it a.placed.handle ∙ sends))
             (subst (λ (h : ℕ). NoneAttaches h (bodies_of later)) (sym own) (none-comes handle.0 later none))
             ∙ ap (λ (h : ℕ). pieces_come h (bodies_of later)) own
             ∙ pieces-alike handle.0 later
             ∙ pieces-both handle.0 once.later (sent_in passings)
 
         pub attachment-says : SayMessages
-            (attachment its.name (uses its.name (bodies_of (sent_in first)))
+            (attachment (name_of it) (uses (name_of it) (bodies_of (sent_in first)))
             (bodies_of (sent_in first ++ frames ++ sent_in passings))
             ++ pieces_waiting handle.0 session.value.session)
             (messages_by link since_then)
@@ -232,4 +247,4 @@ module _ (handles_apart : HandlesApart) (back_on : BackGoesOn) (left_on : LeftGo
             ∙ append_assoc (pieces_on handle.0 once.later) passed waiting))
             (says-behind (pieces_on handle.0 once.later) (passed ++ waiting) (messages_by link since_then) given-up
             (says-all handles_apart back_on left_on finished_on sessions old new end settings before since_then number
-            link limit its events frames passings handle fresh done d passes held session live))
+            link limit it events frames deed passings handle fresh done a d passes held never session live))

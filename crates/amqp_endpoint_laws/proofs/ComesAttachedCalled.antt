@@ -1,6 +1,6 @@
 -- Behind the call by which a receiving link attaches it is attached at once only where it answers one that the peer
 -- asks for; and by no other call does a link come to be attached.
-use Rattle.std.proofs.Common.{◌≡◌, ◌≢◌, ◌==◌, ◌⊎◌, inl, inr, ℕ, Bool, true, false, List, [], ◌∷◌, Option, Some}
+use Rattle.std.proofs.Common.{◌≡◌, ◌≢◌, ◌==◌, ◌⊎◌, inl, inr, ℕ, Bool, true, false, List, [], Option, Some}
 use Rattle.std.proofs.Common.{None, ap, cond, if◌then◌else◌, refl, sym, true≢false, ◌∙◌}
 use Rattle.std.proofs.lemmas.Option.{none-some, same_Some}
 use Rattle.std.specs.FinMap as map
@@ -48,16 +48,17 @@ use Rattle.amqp_endpoint_laws.proofs.HoldingDeeds.{attached-enters, deed-rests}
 use Rattle.amqp_endpoint_laws.proofs.HoldingEnds.{Part, Stays, attached-so, held_end, held_link, stands_so}
 use Rattle.amqp_endpoint_laws.proofs.HoldingEnds.{stays-still}
 use Rattle.amqp_endpoint_laws.proofs.HoldingTalk.{EntersAt, changed-live, each-same, held_in}
-use Rattle.amqp_endpoint_laws.proofs.HoldingWaits.{IsUnattached}
+use Rattle.amqp_endpoint_laws.proofs.HoldingWaits.{IsUnattached, unattached}
 use Rattle.amqp_endpoint_laws.proofs.LifePlace.{CameBy, IsUnentered, came-so, unentered-none}
-use Rattle.amqp_endpoint_laws.proofs.Parted.{holder}
+use Rattle.amqp_endpoint_tables.specs.LinkState.{held_at}
 use Rattle.amqp_endpoint_laws.proofs.PassedPlaces.{eq-same}
+use Rattle.amqp_endpoint_laws.proofs.Placing.{IsPlaced, is-again, is-new}
 use Rattle.amqp_endpoint_laws.proofs.QueuedAttached.{link-entered}
 
 -- behind the call by which a link attaches, one that is attached is this one, in its place, or was so before
 module _ (old new : LinkedSessions) (limit number : ℕ) (it : End) (link : ℕ) (events : List Event)
     (frames : List SessionFrame)
-    (a : LinkAttached old.talk old.links limit number it link events frames new.talk new.links)
+    (a : IsPlaced old.talk old.links limit number it link events frames new.talk new.links)
     (fresh : IsUnattached it) (agree : Agree new) where
   abbrev own_handle : ℕ
   own_handle = a.placed.handle.0
@@ -65,7 +66,7 @@ module _ (old new : LinkedSessions) (limit number : ℕ) (it : End) (link : ℕ)
   stands-there : number_at new.talk.sessions number own_handle ≡ Some link
   stands-there =
       agree.held link number a.placed.handle
-      (ap holder (link-entered old new limit number it link events frames a).1)
+      (ap (held_at new.links) a.numbered ∙ a.held)
 
   pub enters-or-was : (other session : ℕ) (own : OutputHandle) (held : Option Delivery)
       → IsReceiving new other session own held
@@ -173,7 +174,8 @@ module _ (old new : LinkedSessions) (limit number : ℕ) (its : LinkSettings) (l
   its-handle : own.0 ≡ a.placed.handle.0
   its-handle =
       elim
-      (enters-or-was old new limit number (receiver_by its) link events frames a refl
+      (enters-or-was old new limit number (receiver_by its) link events frames
+      (is-new old.talk new.talk old.links new.links limit number (receiver_by its) link events frames a) refl
       (agree-kept old new (Does limit (call.AttachReceiver number its) (attaching link events) frames) d agree) link
       number own held r) [
         | inl (same, by_it) ↦ by_it
@@ -186,8 +188,8 @@ module _ (old new : LinkedSessions) (limit number : ℕ) (its : LinkSettings) (l
   holds-none : held ≡ None
   holds-none =
       by
-      (came-so link (Does limit (call.AttachReceiver number its) (attaching link events) frames) old new d number own.0
-      (true, held) is-held)
+      (came-so link (Does limit (call.AttachReceiver number its) (attaching link events) frames) old new d (λ is. is)
+      number own.0 (true, held) is-held)
     where
       by : CameBy link old new (held_in (live_at old.talk.sessions number) own.0) (true, held) → held ≡ None
       by (inl there) = absurd (unentered-none link old unentered number own.0 (true, held) there)
@@ -264,6 +266,7 @@ call-attaches limit number its link events frames old new d agree own held r =
 abbrev pub AttachesOther : ℕ → Call → Said → Type 0
 AttachesOther link (call.AttachSender number its) (attaching other events) = link ≢ other
 AttachesOther link (call.AttachReceiver number its) (attaching other events) = link ≢ other
+AttachesOther link (call.Resume other number) (attaching one events) = link ≢ other
 AttachesOther link it answer = Unit {0}
 
 -- and no frame is taken in a deed
@@ -274,7 +277,7 @@ IsApart link deed = Unit {0}
 
 module _ (link session : ℕ) (own : OutputHandle) (held : Option Delivery) (old new : LinkedSessions) where
   attached-apart : (limit number : ℕ) (it : End) (other : ℕ) (events : List Event) (frames : List SessionFrame)
-      → IsUnattached it → LinkAttached old.talk old.links limit number it other events frames new.talk new.links
+      → IsUnattached it → IsPlaced old.talk old.links limit number it other events frames new.talk new.links
       → Agree new → link ≢ other → IsReceiving new link session own held → IsReceiving old link session own held
   attached-apart limit number it other events frames fresh a agree apart r =
       elim (enters-or-was old new limit number it other events frames a fresh agree link session own held r) [
@@ -286,11 +289,19 @@ module _ (link session : ℕ) (own : OutputHandle) (held : Option Delivery) (old
       → IsDeed linked old (Does limit it answer frames) new → Agree new → AttachesOther link it answer
       → IsReceiving new link session own held → IsReceiving old link session own held
   call-apart (call.AttachSender number its) (attaching other events) limit frames d agree apart r =
-      attached-apart limit number (sender_by its) other events frames tt d.0 agree apart r
+      attached-apart limit number (sender_by its) other events frames tt
+      (is-new old.talk new.talk old.links new.links limit number (sender_by its) other events frames d.0) agree apart r
   call-apart (call.AttachReceiver number its) (attaching other events) limit frames d agree apart r =
-      attached-apart limit number (receiver_by its) other events frames refl d.0 agree apart r
+      attached-apart limit number (receiver_by its) other events frames refl
+      (is-new old.talk new.talk old.links new.links limit number (receiver_by its) other events frames d.0) agree apart
+      r
+  call-apart (call.Resume other number) (attaching one events) limit frames d agree apart r =
+      attached-apart limit number d.0.resumes.link other events frames
+      (unattached d.0.resumes.link d.0.resumes.may.state)
+      (is-again old.talk new.talk old.links new.links limit number other one events frames d.0) agree apart r
   call-apart (call.AttachSender number its) answer limit frames d agree apart r = absurd d.0
   call-apart (call.AttachReceiver number its) answer limit frames d agree apart r = absurd d.0
+  call-apart (call.Resume other number) answer limit frames d agree apart r = absurd d.0
   call-apart it answer limit frames d agree apart r =
       received-before old new link session own held
       ((deed-rests (Does limit it answer frames) tt old new d session).holds own.0) r

@@ -11,7 +11,7 @@ use Rattle.amqp_endpoint_model.specs.declared.call.Call.TheVariants.{TryEnd}
 use Rattle.amqp_endpoint_model.specs.declared.call.Call.TheVariants.{AttachSender, AttachReceiver, Detach, CloseLink}
 use Rattle.amqp_endpoint_model.specs.declared.call.Call.TheVariants.{Grant, Drain, Credit, HeldBack}
 use Rattle.amqp_endpoint_model.specs.declared.call.Call.TheVariants.{Waiting as WaitingCall}
-use Rattle.amqp_endpoint_model.specs.declared.call.Call.TheVariants.{Send, Dispose, DisposeAll}
+use Rattle.amqp_endpoint_model.specs.declared.call.Call.TheVariants.{Resume, Send, Dispose, DisposeAll}
 use Rattle.amqp_endpoint_model.specs.declared.error.EndpointError.{EndpointError}
 use Rattle.amqp_endpoint_model.specs.declared.error.EndpointError.TheVariants.{AlreadyConnected, NotConnected}
 use Rattle.amqp_endpoint_model.specs.declared.event.Event.{Event}
@@ -148,6 +148,8 @@ module _ {S : Type 0} (does : Relations S) where
   had-one (AttachSender n settings) (attaching link told) old new s up =
       stayed old new (ap (λ (x : State S). x.phase) s.queued) up
   had-one (AttachReceiver n settings) (attaching link told) old new s up =
+      stayed old new (ap (λ (x : State S). x.phase) s.queued) up
+  had-one (Resume link n) (attaching number told) old new s up =
       stayed old new (ap (λ (x : State S). x.phase) s.queued) up
   had-one (Detach link) done old new s up = stayed old new (ap (λ (x : State S). x.phase) s.queued) up
   had-one (CloseLink link) (link_closed told) old new s up = stayed old new (ap (λ (x : State S). x.phase) s.queued) up

@@ -31,7 +31,7 @@ use Rattle.amqp_endpoint_link_calls.specs.Closing.{ClosedAt, ClosedHeld, closed_
 use Rattle.amqp_endpoint_link_calls.specs.Places.{Where}
 use Rattle.amqp_endpoint_messages.specs.All.{open_count}
 use Rattle.amqp_endpoint_messages.specs.GivingUp.{attached_told}
-use Rattle.amqp_endpoint.specs.Attaching.{LinkAttached}
+use Rattle.amqp_endpoint_laws.proofs.Placing.{IsPlaced, is-again, is-new}
 use Rattle.amqp_endpoint.specs.Calling.{Calls}
 use Rattle.amqp_endpoint.specs.Counting.{Counted, CountsStay}
 use Rattle.amqp_endpoint.specs.Does.{linked}
@@ -110,7 +110,7 @@ placed-unnumbered (Some input) before after limit link placed frames a =
 
 link-unnumbered : (old new : Talk) (links links_new : Links) (limit session : ℕ) (link : End) (number : ℕ)
     (events : List Event) (frames : List SessionFrame)
-    → LinkAttached old links limit session link number events frames new links_new → Unnumbered events
+    → IsPlaced old links limit session link number events frames new links_new → Unnumbered events
 link-unnumbered old new links links_new limit session link number events frames a =
     let i = (a.attaches).attaches in
     ap (λ (es : List Event). numbers_told es) a.told
@@ -142,9 +142,14 @@ closed-unnumbered (Some (Held session handle)) number events old new links links
 pub answer-unnumbered : (by_call : Call) (answer : Said) (old new : LinkedSessions) (limit : ℕ)
     (frames : List SessionFrame) → Calls old limit by_call answer frames new → Unnumbered (events_of answer)
 answer-unnumbered (call.AttachSender n settings) (attaching link events) old new limit frames c =
-    link-unnumbered old.talk new.talk old.links new.links limit n (sender_by settings) link events frames c
+    link-unnumbered old.talk new.talk old.links new.links limit n (sender_by settings) link events frames
+    (is-new old.talk new.talk old.links new.links limit n (sender_by settings) link events frames c)
 answer-unnumbered (call.AttachReceiver n settings) (attaching link events) old new limit frames c =
-    link-unnumbered old.talk new.talk old.links new.links limit n (receiver_by settings) link events frames c
+    link-unnumbered old.talk new.talk old.links new.links limit n (receiver_by settings) link events frames
+    (is-new old.talk new.talk old.links new.links limit n (receiver_by settings) link events frames c)
+answer-unnumbered (call.Resume link n) (attaching number events) old new limit frames c =
+    link-unnumbered old.talk new.talk old.links new.links limit n _ link events frames
+    (is-again old.talk new.talk old.links new.links limit n link number events frames c)
 answer-unnumbered (call.CloseLink link) (link_closed events) old new limit frames c =
     closed-unnumbered (place_at old.links link) link events old.talk new.talk old.links new.links frames c
 answer-unnumbered call.Begin (session_begun n) old new limit frames c = refl
@@ -181,6 +186,9 @@ called seen tags (call.AttachSender n settings) (attaching link events) old new 
 called seen tags (call.AttachReceiver n settings) (attaching link events) old new limit frames c same s =
     called-plain seen events tags old new
     (answer-unnumbered (call.AttachReceiver n settings) (attaching link events) old new limit frames c) same s
+called seen tags (call.Resume link n) (attaching number events) old new limit frames c same s =
+    called-plain seen events tags old new
+    (answer-unnumbered (call.Resume link n) (attaching number events) old new limit frames c) same s
 called seen tags (call.Detach link) done old new limit frames c same s = called-plain seen [] tags old new refl same s
 called seen tags (call.CloseLink link) (link_closed events) old new limit frames c same s =
     called-plain seen events tags old new

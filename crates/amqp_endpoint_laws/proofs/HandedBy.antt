@@ -344,19 +344,22 @@ deed-none Closes other old new d = refl
 deed-none Finishes other old new d = refl
 
 -- what a link holds that hears a transfer goes on, or all that is held does as by any other deed
-abbrev pub MovesBy : LinkedSessions → LinkedSessions → Holding → Holding → Type 0
-MovesBy old new was is = IsTold was is ⊎ GoesBy old new was is
+abbrev pub MovesBy : Deed → LinkedSessions → LinkedSessions → Holding → Holding → Type 0
+MovesBy deed old new was is = IsTold was is ⊎ GoesBy deed old new was is
 
 frame-moves : (it : FrameBody) (limit channel : ℕ) (frames : List SessionFrame) (events : List Event)
     (old new : LinkedSessions)
     → IsDeed linked old (Takes limit (record { channel = channel; body = it }) frames events) new
-    → EachOf (MovesBy old new) old.talk.sessions new.talk.sessions
+    → EachOf (MovesBy (Takes limit (record { channel = channel; body = it }) frames events) old new) old.talk.sessions
+    new.talk.sessions
 frame-moves (body.Transfer transfer payload) limit channel frames events old new d n h =
     by (heard-moves old new (record { 0 = channel }) transfer payload frames events
     (heard-so old new (record { 0 = channel }) transfer payload frames events d.0) n h)
   where
     by : HearsOne (held_in (live_at old.talk.sessions n) h) (held_in (live_at new.talk.sessions n) h)
-        → MovesBy old new (held_in (live_at old.talk.sessions n) h) (held_in (live_at new.talk.sessions n) h)
+        → MovesBy
+        (Takes limit (record { channel = channel; body = body.Transfer transfer payload }) frames events) old new
+        (held_in (live_at old.talk.sessions n) h) (held_in (live_at new.talk.sessions n) h)
     by (inl t) = inl t
     by (inr stays) = inr (inr (inr stays))
 frame-moves it limit channel frames events old new d n h =
@@ -382,7 +385,7 @@ frame-leads transfer payload limit channel frames events old new d n =
     }
 
 pub deed-moves : (deed : Deed) (old new : LinkedSessions) → IsDeed linked old deed new
-    → EachOf (MovesBy old new) old.talk.sessions new.talk.sessions
+    → EachOf (MovesBy deed old new) old.talk.sessions new.talk.sessions
 deed-moves (Takes limit f frames events) old new d n h =
     frame-moves f.body limit f.channel frames events old new d n h
 deed-moves deed old new d n h = inr (deed-goes deed tt old new d n h)
@@ -405,10 +408,10 @@ deed-hands (Takes limit f frames events) old new link d =
     frame-hands f.body limit f.channel frames events old new d link
 deed-hands deed old new link d = inl (none-handed link (told_in deed) (deed-none deed tt old new d))
 
-by-same : (old new : LinkedSessions) (a b : Holding) (link : ℕ) (held later : Option Delivery) → GoesBy old new a b
-    → a ≡ Some (link, (true, held)) → b ≡ Some (link, (true, later)) → later ≡ held
-by-same old new a b link held later (inl e) first is = absurd (none-some _ (sym e.vacant ∙ first))
-by-same old new a b link held later (inr g) first is = goes-same a b link held later g first is
+by-same : (deed : Deed) (old new : LinkedSessions) (a b : Holding) (link : ℕ) (held later : Option Delivery)
+    → GoesBy deed old new a b → a ≡ Some (link, (true, held)) → b ≡ Some (link, (true, later)) → later ≡ held
+by-same deed old new a b link held later (inl e) first is = absurd (none-some _ (sym e.vacant ∙ first))
+by-same deed old new a b link held later (inr g) first is = goes-same a b link held later g first is
 
 module _ (link n : ℕ) (own : OutputHandle) where
   -- one deed
@@ -435,7 +438,7 @@ module _ (link n : ℕ) (own : OutputHandle) where
   other-says deed other old new d reading later r q =
       says-none own reading (pieces_in n own old deed) (handed_by link (told_in deed)) later
       (no-transfer deed other old) (none-handed link (told_in deed) (deed-none deed other old new d))
-      (by-same old new (held_in (live_at old.talk.sessions n) own.0) (held_in (live_at new.talk.sessions n) own.0) link
+      (by-same deed old new (held_in (live_at old.talk.sessions n) own.0) (held_in (live_at new.talk.sessions n) own.0) link
       (held_said reading.held) later (deed-goes deed other old new d n own.0)
       (receives-holds old link n own (held_said reading.held) r) (receives-holds new link n own later q))
 
@@ -486,7 +489,8 @@ module _ (link n : ℕ) (own : OutputHandle) where
   module _ (Kept : LinkedSessions → Type 0)
       (stands : (s : LinkedSessions) (held : Option Delivery) → Kept s → IsReceiving s link n own held
       → Stands s held)
-      (keeps : (deed : Deed) (old new : LinkedSessions) → IsDeed linked old deed new → Kept old → Kept new) where
+      (keeps : (deed : Deed) (old new : LinkedSessions) → IsDeed linked old deed new → (held : Option Delivery)
+      → Kept old → IsReceiving old link n own held → Kept new) where
     pub deeds-say : (deeds : List Deed) (old new : LinkedSessions) (pieces : List Piece) (reading : Reading) → Kept old
         → IsReceiving old link n own (held_said reading.held) → ReachIn link n own old deeds new pieces
         → NoneResumes pieces
@@ -504,7 +508,7 @@ module _ (link n : ℕ) (own : OutputHandle) where
         let ps : List Piece = pieces_in n own old deed in
         let (first, more) = none-resume ps later (subst NoneResumes is none) in
         let was = stands old (held_said reading.held) k r in
-        let kept = keeps deed old mid d k in
+        let kept = keeps deed old mid d (held_said reading.held) k r in
         let one =
         deed-says deed old mid d reading held was.receives (stands mid held kept q).receives was.alone first in
         let (messages, receives) =

@@ -17,7 +17,8 @@ use Rattle.amqp_endpoint_laws.proofs.HandedBy.{deeds-say}
 use Rattle.amqp_endpoint_laws.proofs.HandedOut.{receives-holds, receives-so}
 use Rattle.amqp_endpoint_laws.proofs.HeldKept.{agree-new}
 use Rattle.amqp_endpoint_laws.proofs.HoldingTalk.{held_in}
-use Rattle.amqp_endpoint_laws.proofs.LifePlace.{IsIn, IsKnown, IsUnentered, known-done, stays-in, unentered-none}
+use Rattle.amqp_endpoint_laws.proofs.LifePlace.{IsAlone, IsKnown, IsUnentered, known-done, stays-held}
+use Rattle.amqp_endpoint_laws.proofs.LifePlace.{unentered-none}
 use Rattle.amqp_endpoint_laws.proofs.LinksKept.{BackGoesOn, FinishedGoesOn, LeftGoesOn}
 
 -- in new sessions no link has a number
@@ -32,12 +33,12 @@ new-unentered link sessions settings new =
 module _ (back_on : BackGoesOn) (left_on : LeftGoesOn) (finished_on : FinishedGoesOn) where
   -- where a link receives, it is there
   receives-in : (link session : ℕ) (own : OutputHandle) (s : LinkedSessions) (held : Option Delivery)
-      → IsKnown link s → IsReceiving s link session own held → IsIn link s session own.0
+      → IsKnown link s → IsReceiving s link session own held → IsAlone link s session own.0
   receives-in link session own s held k r =
       by k (receives-holds s link session own held (receives-so s link session own held r))
     where
       by : IsKnown link s → held_in (live_at s.talk.sessions session) own.0 ≡ Some (link, (true, held))
-          → IsIn link s session own.0
+          → IsAlone link s session own.0
       by (inl u) there = absurd (unentered-none link s u session own.0 (true, held) there)
       by (inr (n, h, i)) there =
           let (in_it, by_it) = i.alone session own.0 (true, held) there in
@@ -45,7 +46,6 @@ module _ (back_on : BackGoesOn) (left_on : LeftGoesOn) (finished_on : FinishedGo
             agrees = i.agrees;
             entered = i.entered;
             alone = λ m g x e. let (a, b) = i.alone m g x e in (a ∙ sym in_it, b ∙ sym by_it);
-            empty = i.empty;
           }
 
   pub handed-so : (sessions start end : LinkedSessions) (settings : Settings) (before since : List Deed)
@@ -61,9 +61,11 @@ module _ (back_on : BackGoesOn) (left_on : LeftGoesOn) (finished_on : FinishedGo
       known-done link back_on left_on finished_on before sessions start done
       (inl (new-unentered link sessions settings new)) in
       let (messages, receives) =
-      deeds-say link session own (λ s. IsIn link s session own.0)
+      deeds-say link session own (λ s. IsAlone link s session own.0)
       (λ s h i q. record { receives = receives-so s link session own h q; alone = i.alone })
-      (λ deed old mid d i. stays-in link deed old mid d back_on left_on finished_on session own.0 i) since start end
+      (λ deed old mid d h i q.
+      stays-held link deed old mid d back_on left_on finished_on session own.0 i h
+      (receives-holds old link session own h (receives-so old link session own h q))) since start end
       pieces (record nothing { held = held }) (receives-in link session own start (held_said held) known r) r reach none
       in
       (sym messages, receives)

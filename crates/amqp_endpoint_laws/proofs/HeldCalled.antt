@@ -31,14 +31,11 @@ use Rattle.amqp_endpoint_model.specs.declared.event.Event.{Event}
 use Rattle.amqp_endpoint_model.specs.Said.{Said, attaching, count, credit_is, done, link_closed, message_sent}
 use Rattle.amqp_endpoint_model.specs.Said.{session_begun, tried_end, truth, waiting}
 use Rattle.amqp_endpoint_linking.specs.Linking.{Link, Links, Session, Sessions, Stood, Talk}
-use Rattle.amqp_endpoint_link_calls.specs.Attaching.{with_room}
-use Rattle.amqp_endpoint_link_calls.specs.Naming.{name_of}
 use Rattle.amqp_endpoint_link_calls.specs.Calling.{Does, DoneAt, DoneIn, detaches, gives_credit, wants_drain}
 use Rattle.amqp_endpoint_link_calls.specs.Closing.{ClosedAt, ClosedHeld, closes, fails, parted_at}
 use Rattle.amqp_endpoint_link_calls.specs.Places.{Where}
 use Rattle.amqp_endpoint_link_calls.specs.Disposing.{DisposedAt, disposes_of_all, disposes_of_one}
 use Rattle.amqp_endpoint_link_calls.specs.Sending.{sends}
-use Rattle.amqp_endpoint.specs.Attaching.{LinkAttached}
 use Rattle.amqp_endpoint.specs.Calling.{Calls, answer_of}
 use Rattle.amqp_endpoint.specs.Sending.{tag_of}
 use Rattle.amqp_endpoint.specs.declared.linked.LinkedSessions.{LinkedSessions}
@@ -53,7 +50,8 @@ use Rattle.amqp_endpoint_laws.proofs.Numbers.{AllKeepNumbers, KeepNumbers, histo
 use Rattle.amqp_endpoint_laws.proofs.NumbersInside.{KeepsAll, attached-placed, closes-kept, detaches-kept}
 use Rattle.amqp_endpoint_laws.proofs.NumbersInside.{disposes-kept, disposes-one-kept, drains-kept, gives-kept}
 use Rattle.amqp_endpoint_laws.proofs.NumbersInside.{fails-kept, sends-kept}
-use Rattle.amqp_endpoint_laws.proofs.Parted.{closes-shut, entered}
+use Rattle.amqp_endpoint_laws.proofs.Parted.{closes-shut}
+use Rattle.amqp_endpoint_laws.proofs.Placing.{IsPlaced, is-again, is-new}
 
 -- the same numbers stand in the sessions of both
 abbrev pub TalkSame : Talk → Talk → Type 0
@@ -124,7 +122,7 @@ closed-at (Some (Held session handle)) number events old new links links_new fra
 
 attached : (old new : Talk) (links links_new : Links) (limit session : ℕ) (link : End) (number : ℕ)
     (events : List Event) (frames : List SessionFrame)
-    → LinkAttached old links limit session link number events frames new links_new
+    → IsPlaced old links limit session link number events frames new links_new
     → Agrees (number_at old.sessions) links → Agrees (number_at new.sessions) links_new
 attached old new links links_new limit session link number events frames l a =
     let it = l.placed in
@@ -133,11 +131,11 @@ attached old new links links_new limit session link number events frames l a =
     let one = i.attached in
     let p =
     attached-placed (i.before).value (i.after).value limit link it t.frames one.input one.attached in
-    let e = entered it.link (name_of link) session it.handle (with_room links) links_new t.entered in
     inside session ((i.before).value).session ((i.after).value).session old.sessions new.sessions
     (live-changed session i.before i.after old.sessions new.sessions i.stepped) links links_new
     (enter-in (number_at old.sessions) session ((i.before).value).session ((i.after).value).session links links_new
-    it.link (it.handle).0 p.none p.here (record { none = e.none; held = e.held; other = e.other }))
+    it.link (it.handle).0 p.none p.here
+    (record { vacant = l.vacant; unclosed = l.unclosed; held = l.held; other = l.other }))
     a
 
 -- a session that begins has no links
@@ -227,9 +225,14 @@ called (call.TryEnd n) (tried_end o) old new limit frames c a =
     (end-told old.talk.sessions new.talk.sessions n (answer_of o) c.tells)
     (ap (λ (s : LinkedSessions). s.links) c.rest) a
 called (call.AttachSender n settings) (attaching link events) old new limit frames c a =
-    attached old.talk new.talk old.links new.links limit n _ link events frames c a
+    attached old.talk new.talk old.links new.links limit n _ link events frames
+    (is-new old.talk new.talk old.links new.links limit n _ link events frames c) a
 called (call.AttachReceiver n settings) (attaching link events) old new limit frames c a =
-    attached old.talk new.talk old.links new.links limit n _ link events frames c a
+    attached old.talk new.talk old.links new.links limit n _ link events frames
+    (is-new old.talk new.talk old.links new.links limit n _ link events frames c) a
+called (call.Resume link n) (attaching number events) old new limit frames c a =
+    attached old.talk new.talk old.links new.links limit n _ link events frames
+    (is-again old.talk new.talk old.links new.links limit n link number events frames c) a
 called (call.Detach link) done old new limit frames c a =
     stays-held old.talk new.talk old.links new.links
     (done-at (detaches false) (link_place old.links link) old.talk new.talk frames (detaches-kept false) c.is_done)

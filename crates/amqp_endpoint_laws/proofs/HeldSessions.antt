@@ -20,7 +20,7 @@ use Rattle.amqp_endpoint_tables.proofs.Owning.{at, other_number, same_number}
 use Rattle.amqp_endpoint_laws.specs.Held.{Agrees, Numbers, number_at, number_in, number_live, number_of}
 use Rattle.amqp_endpoint_laws.proofs.Agreeing.{Same, enter, leave, shut, stay}
 use Rattle.amqp_endpoint_laws.proofs.Numbers.{KeepNumbers}
-use Rattle.amqp_endpoint_laws.proofs.Parted.{Entered, Parted, Shut}
+use Rattle.amqp_endpoint_laws.proofs.Parted.{ComesIn, Parted, Shut}
 
 -- a number that is behind a test
 if-true : {X : Type 0} (b : Bool) (x y : X) → b ≡ true → (if b then x else y) ≡ x
@@ -184,7 +184,7 @@ module _ {R : Type 0} where
       enters-other n h true e = enters-here n h (same_number n number e) (h == handle) refl
       enters-other n h false e = inr refl
 
-      pub enter-in : Entered link number (record { 0 = handle }) links links_new → Agrees Before links
+      pub enter-in : ComesIn link number (record { 0 = handle }) links links_new → Agrees Before links
           → Agrees Behind links_new
       enter-in e a =
           enter Before Behind links links_new link number handle e

@@ -1,5 +1,5 @@
 -- What the links of a session hold behind a call by which one attaches.
-use Rattle.std.proofs.Common.{◌≡◌, ℕ, List, [], Option, Some, None, Ok, refl, subst}
+use Rattle.std.proofs.Common.{ℕ, List, [], Option, Some, None, Ok, refl, subst}
 use Rattle.amqp_session_types.specs.declared.handles.InputHandle.{InputHandle}
 use Rattle.amqp_session_performatives.specs.declared.session_frame.SessionFrame.{SessionFrame}
 use Rattle.amqp_link.specs.Ends.{with_handle}
@@ -17,30 +17,31 @@ use Rattle.amqp_endpoint_laws.proofs.HoldingWaits.{IsUnattached, answer-waits}
 use Rattle.amqp_endpoint_laws.proofs.LeadingStill.{own-waits}
 
 module _ (before after : Linked) (limit : ℕ) (link : End) (placed : Placed) (frames : List SessionFrame) where
-  pub attached-comes : IsEmpty link → (input : Option InputHandle)
+  pub attached-comes : (E : Type 0) → (E → IsEmpty link) → (input : Option InputHandle)
       → AttachedBy input before [] limit link placed after frames
-      → Each (Comes placed.link) before.session after.session
-  attached-comes empty None (a, told) =
-      allocated-comes placed.link before.session after.session placed.handle.0 (with_number placed.link a.attaching)
+      → Each (Comes E placed.link) before.session after.session
+  attached-comes E empty None (a, told) =
+      allocated-comes E placed.link before.session after.session placed.handle.0 (with_number placed.link a.attaching)
       None
-      (empty-fresh placed.link a.attaching
-      (empty-sent (with_handle link placed.handle) a.attach.incomplete_unsettled a.attaching
-      (empty-handle link placed.handle empty) a.sends.sent))
+      (empty-fresh E placed.link a.attaching
+      (λ e.
+      empty-sent (with_handle link placed.handle) a.attach.incomplete_unsettled a.attaching
+      (empty-handle link placed.handle (empty e)) a.sends.sent))
       a.allocates
-  attached-comes empty (Some input) a =
+  attached-comes E empty (Some input) a =
       let s = a.answers in
       let e = s.exchanges in
       let h = (a.answered).handle in
-      let taken : IsEmpty e.taken =
-      empty-takes link (s.asked).attach (Ok (e.takes).told) e.taken empty (e.takes).takes in
-      let sent : IsEmpty s.becomes =
-      empty-sent (with_handle e.taken h) (s.attach).incomplete_unsettled s.becomes (empty-handle e.taken h taken)
+      let sent : E → IsEmpty s.becomes = λ is.
+      empty-sent (with_handle e.taken h) (s.attach).incomplete_unsettled s.becomes
+      (empty-handle e.taken h
+      (empty-takes link (s.asked).attach (Ok (e.takes).told) e.taken (empty is) (e.takes).takes))
       e.sent in
-      subst (λ (t : LinksIn). Each (Comes placed.link) t after.session)
+      subst (λ (t : LinksIn). Each (Comes E placed.link) t after.session)
       (roomed before after limit link placed frames input a)
-      (each-comes placed.link (a.ready).session (a.mid).session after.session
-      (allocated-comes placed.link (a.ready).session (a.mid).session placed.handle.0
-      (with_number placed.link s.becomes) (Some input.0) (empty-fresh placed.link s.becomes sent)
+      (each-comes E placed.link (a.ready).session (a.mid).session after.session
+      (allocated-comes E placed.link (a.ready).session (a.mid).session placed.handle.0
+      (with_number placed.link s.becomes) (Some input.0) (empty-fresh E placed.link s.becomes sent)
       (allocates before after limit link placed frames input a))
       (behind-rests a.frames a.mid after (goes before after limit link placed frames input a)))
 

@@ -1,6 +1,6 @@
 -- What links hold of their messages, whatever an endpoint does but that it takes a Transfer.
 use Rattle.std.proofs.Common.{◌≡◌, ◌≢◌, ◌⊎◌, inl, inr, ℕ, Bool, true, false, List, [], ◌∷◌, Option, Some, None}
-use Rattle.std.proofs.Common.{Ok, Err, ap, refl, slice_get, sym, ◌∙◌}
+use Rattle.std.proofs.Common.{Ok, Err, ap, refl, slice_get, subst, sym, ◌∙◌}
 use Rattle.std.proofs.lemmas.Option.{none-some}
 use Rattle.std.specs.FinMap as map
 use Rattle.std.specs.FinMap.{get-empty}
@@ -35,6 +35,7 @@ use Rattle.amqp_endpoint_conversation.specs.declared.beginning.BeginRefusal.TheV
 use Rattle.amqp_endpoint_laws.specs.Deeds.{Closes, Deed, Does, EndsBy, Finishes, Hears, IsDeed, Moves, Queues}
 use Rattle.amqp_endpoint_laws.specs.Deeds.{Refuses, Renews, Takes}
 use Rattle.amqp_endpoint_link_calls.specs.Attaching.{with_room}
+use Rattle.amqp_endpoint_link_calls.specs.Naming.{name_of}
 use Rattle.amqp_endpoint_link_calls.specs.Calling.{Does as DoesTo, DoneAt, DoneIn, detaches, gives_credit, wants_drain}
 use Rattle.amqp_endpoint_link_calls.specs.Closing.{ClosedAt, ClosedHeld, closes, fails, parted_at}
 use Rattle.amqp_endpoint_link_calls.specs.Places.{LinksBy, Where}
@@ -47,7 +48,7 @@ use Rattle.amqp_endpoint_link_hearing.specs.Heard.{attach_of, detach_of, session
 use Rattle.amqp_endpoint_link_hearing.specs.Saying.{LinkHeard}
 use Rattle.amqp_endpoint_link_calls.specs.Disposing.{DisposedAt, disposes_of_all, disposes_of_one}
 use Rattle.amqp_endpoint_link_calls.specs.Sending.{sends}
-use Rattle.amqp_endpoint.specs.Attaching.{LinkAttached}
+use Rattle.amqp_endpoint.specs.Attaching.{LinkAttached, LinkResumed}
 use Rattle.amqp_endpoint.specs.Calling.{Calls, answer_of}
 use Rattle.amqp_endpoint.specs.Does.{linked}
 use Rattle.amqp_endpoint.specs.Hearing.{Hears as HearsFrame}
@@ -65,7 +66,8 @@ use Rattle.amqp_endpoint_model.specs.declared.call.Disposal.{Disposal}
 use Rattle.amqp_endpoint_model.specs.declared.error.EndpointError.{EndpointError}
 use Rattle.amqp_endpoint_model.specs.declared.event.Event.{Event}
 use Rattle.amqp_endpoint_tables.specs.OwnLinks.{slot_at}
-use Rattle.amqp_endpoint_tables.specs.LinkState.{place_at as link_place}
+use Rattle.amqp_endpoint_tables.specs.LinkState.{open_of, place_at as link_place, place_of, rest_at, rest_of}
+use Rattle.amqp_endpoint_tables.specs.declared.link_place.Named.{Named}
 use Rattle.amqp_endpoint_tables.specs.declared.link_place.LinkPlace.TheVariants.{AtRest, Held}
 use Rattle.amqp_endpoint_tables.specs.State.{ended_place, live_at, live_of, peer_end_of, place_at, told_place}
 use Rattle.amqp_endpoint_tables.specs.Steps.{Accepts, Asks, Begins, EndTold, TakesBegin, TakesEnd}
@@ -96,6 +98,8 @@ use Rattle.amqp_endpoint_laws.proofs.HoldingWaits.{IsUnattached}
 use Rattle.amqp_endpoint_laws.proofs.PassedKept.{IsOver, Wanes, by-frame-still, finished-first, left-first, over-at}
 use Rattle.amqp_endpoint_laws.proofs.Parted.{entered, holder}
 use Rattle.amqp_endpoint_laws.proofs.PassedPlaces.{IsGone, eq-same}
+use Rattle.amqp_endpoint_laws.proofs.Placing.{IsPlaced, is-again, is-new}
+use Rattle.amqp_endpoint_laws.specs.Resumed.{IsResumed}
 use Rattle.amqp_endpoint_laws.proofs.RoomMade.{RoomMade, room-holds, room-leads, room-made, room-named}
 
 pub talk-same : (old new : Talk) → new ≡ old → AllRest old.sessions new.sessions
@@ -307,20 +311,20 @@ closed-at (Some (Held session handle)) number events old new links links_new fra
 
 -- a link attaches
 attached : (old new : Talk) (links links_new : LinksBy) (limit session : ℕ) (link : End) (number : ℕ)
-    (events : List Event) (frames : List SessionFrame) → IsEmpty link
-    → (a : LinkAttached old links limit session link number events frames new links_new)
-    → EachOf (Comes a.placed.link) old.sessions new.sessions
-attached old new links links_new limit session link number events frames empty a =
+    (events : List Event) (frames : List SessionFrame) (E : Type 0) → (E → IsEmpty link)
+    → (a : IsPlaced old links limit session link number events frames new links_new)
+    → EachOf (Comes E a.placed.link) old.sessions new.sessions
+attached old new links links_new limit session link number events frames E empty a =
     let l = a.attaches in
     let i = l.attaches in
     let one = i.attached in
-    live-changes (EachAt (Comes a.placed.link)) (each-same (Comes a.placed.link) (λ x. inr (goes-still x))) session
+    live-changes (EachAt (Comes E a.placed.link)) (each-same (Comes E a.placed.link) (λ x. inr (goes-still x))) session
     i.before i.after old.sessions new.sessions i.stepped
-    (attached-comes i.before.value i.after.value limit link a.placed l.frames empty one.input one.attached)
+    (attached-comes i.before.value i.after.value limit link a.placed l.frames E empty one.input one.attached)
 
 pub attached-enters : (old new : Talk) (links links_new : LinksBy) (limit session : ℕ) (link : End) (number : ℕ)
     (events : List Event) (frames : List SessionFrame) → IsUnattached link
-    → (a : LinkAttached old links limit session link number events frames new links_new)
+    → (a : IsPlaced old links limit session link number events frames new links_new)
     → (n : ℕ) → EntersAt a.placed.handle.0 (live_at old.sessions n) (live_at new.sessions n)
 attached-enters old new links links_new limit session link number events frames fresh a =
     let l = a.attaches in
@@ -399,6 +403,7 @@ told-alone old new same =
 abbrev AttachesNone : Call → Type 0
 AttachesNone (call.AttachSender n settings) = ⊥
 AttachesNone (call.AttachReceiver n settings) = ⊥
+AttachesNone (call.Resume link n) = ⊥
 AttachesNone it = Unit {0}
 
 call-rests : (it : Call) → AttachesNone it → (answer : Said) (old new : LinkedSessions) (limit : ℕ)
@@ -414,6 +419,7 @@ call-rests (call.TryEnd n) none (tried_end o) old new limit frames c =
     end-told old.talk.sessions new.talk.sessions n (answer_of o) c.tells
 call-rests (call.AttachSender n settings) none answer old new limit frames c = absurd none
 call-rests (call.AttachReceiver n settings) none answer old new limit frames c = absurd none
+call-rests (call.Resume link n) none answer old new limit frames c = absurd none
 call-rests (call.Detach link) none done old new limit frames c =
     done-at (detaches false) (link_place old.links link) old.talk new.talk frames (detaches-stay false) c.is_done
 call-rests (call.CloseLink link) none (link_closed events) old new limit frames c =
@@ -475,53 +481,90 @@ abbrev pub TakesNoTransfer : Deed → Type 0
 TakesNoTransfer (Takes limit f frames events) = IsNotTransfer f.body
 TakesNoTransfer deed = Unit {0}
 
--- or a link enters that had no number before
-pub record Enters (old new : LinkedSessions) (was is : Holding) : Type 0 where
+-- or a link attaches that had no number before, and holds nothing, or one attaches again
+pub record Enters (deed : Deed) (old new : LinkedSessions) (was is : Holding) : Type 0 where
   pub number : ℕ
-  pub none : slot_at old.links number ≡ None
+  pub came : (slot_at old.links number ≡ None) ⊎ IsResumed number deed
   pub there : slot_at new.links number ≢ Some None
   pub vacant : was ≡ None
-  pub fresh : IsFresh number is
+  pub fresh : IsFresh (slot_at old.links number ≡ None) number is
 
-abbrev pub GoesBy : LinkedSessions → LinkedSessions → Holding → Holding → Type 0
-GoesBy old new was is = Enters old new was is ⊎ Goes was is
+abbrev pub GoesBy : Deed → LinkedSessions → LinkedSessions → Holding → Holding → Type 0
+GoesBy deed old new was is = Enters deed old new was is ⊎ Goes was is
 
-abbrev pub EachBy : LinkedSessions → LinkedSessions → Type 0
-EachBy old new = EachOf (GoesBy old new) old.talk.sessions new.talk.sessions
+abbrev pub EachBy : Deed → LinkedSessions → LinkedSessions → Type 0
+EachBy deed old new = EachOf (GoesBy deed old new) old.talk.sessions new.talk.sessions
 
-go-by : (old new : LinkedSessions) → EachOf Goes old.talk.sessions new.talk.sessions → EachBy old new
-go-by old new each n h = inr (each n h)
+go-by : (deed : Deed) (old new : LinkedSessions) → EachOf Goes old.talk.sessions new.talk.sessions
+    → EachBy deed old new
+go-by deed old new each n h = inr (each n h)
 
-attached-by : (old new : LinkedSessions) (limit session : ℕ) (link : End) (number : ℕ) (events : List Event)
-    (frames : List SessionFrame) → IsEmpty link
-    → LinkAttached old.talk old.links limit session link number events frames new.talk new.links → EachBy old new
-attached-by old new limit session link number events frames empty a n h =
-    by (attached old.talk new.talk old.links new.links limit session link number events frames empty a n h)
+attached-by : (deed : Deed) (old new : LinkedSessions) (limit session : ℕ) (link : End) (number : ℕ)
+    (events : List Event) (frames : List SessionFrame)
+    (a : IsPlaced old.talk old.links limit session link number events frames new.talk new.links)
+    → ((slot_at old.links a.placed.link ≡ None) ⊎ IsResumed a.placed.link deed)
+    → (slot_at old.links a.placed.link ≡ None → IsEmpty link) → EachBy deed old new
+attached-by deed old new limit session link number events frames a came empty n h =
+    by
+    (attached old.talk new.talk old.links new.links limit session link number events frames
+    (slot_at old.links a.placed.link ≡ None) empty a n h)
   where
-    by : Comes a.placed.link (held_in (live_at old.talk.sessions n) h) (held_in (live_at new.talk.sessions n) h)
-        → GoesBy old new (held_in (live_at old.talk.sessions n) h) (held_in (live_at new.talk.sessions n) h)
+    by : Comes (slot_at old.links a.placed.link ≡ None) a.placed.link (held_in (live_at old.talk.sessions n) h)
+        (held_in (live_at new.talk.sessions n) h)
+        → GoesBy deed old new (held_in (live_at old.talk.sessions n) h) (held_in (live_at new.talk.sessions n) h)
     by (inr goes) = inr goes
     by (inl (vacant, fresh)) =
-        let e =
-        entered a.placed.link _ session a.placed.handle (with_room old.links) new.links a.attaches.entered in
         inl (record {
           number = a.placed.link;
-          none = e.none;
-          there = λ closed. none-some _ (sym (ap holder closed) ∙ e.held);
+          came = came;
+          there = λ closed. none-some _ (sym (ap holder closed) ∙ a.held);
           vacant = vacant;
           fresh = fresh;
         })
 
+-- a new link attaches, or one that was at rest
+new-by : (deed : Deed) (old new : LinkedSessions) (limit session : ℕ) (link : End) (number : ℕ) (events : List Event)
+    (frames : List SessionFrame) → IsEmpty link
+    → LinkAttached old.talk old.links limit session link number events frames new.talk new.links → EachBy deed old new
+new-by deed old new limit session link number events frames empty a =
+    attached-by deed old new limit session link number events frames
+    (is-new old.talk new.talk old.links new.links limit session link number events frames a)
+    (inl
+    (entered a.placed.link (name_of link) session a.placed.handle (with_room old.links) new.links
+    a.attaches.entered).none)
+    (λ none. empty)
+
+again-by : (deed : Deed) (old new : LinkedSessions) (limit session link number : ℕ) (events : List Event)
+    (frames : List SessionFrame)
+    → (r : LinkResumed old.talk old.links limit link session number events frames new.talk new.links)
+    → IsResumed link deed → EachBy deed old new
+again-by deed old new limit session link number events frames r resumed =
+    attached-by deed old new limit session r.resumes.link link events frames
+    (is-again old.talk new.talk old.links new.links limit session link number events frames r)
+    (inr (subst (λ (k : ℕ). IsResumed k deed) (sym r.resumes.numbered) resumed))
+    (λ none.
+    absurd
+    (none-some r.resumes.link
+    (sym (ap (λ (o : Option (Option (Named End))). rest_of (place_of (open_of o))) none)
+    ∙ ap (rest_at old.links) r.resumes.numbered ∙ r.resumes.may.rests)))
+
 call-by : (it : Call) (answer : Said) (old new : LinkedSessions) (limit : ℕ) (frames : List SessionFrame)
-    → Calls old limit it answer frames new → EachBy old new
+    → Calls old limit it answer frames new → EachBy (Does limit it answer frames) old new
 call-by (call.AttachSender n settings) (attaching link events) old new limit frames c =
-    attached-by old new limit n (sender_by settings) link events frames tt c
+    new-by (Does limit (call.AttachSender n settings) (attaching link events) frames) old new limit n
+    (sender_by settings) link events frames tt c
 call-by (call.AttachReceiver n settings) (attaching link events) old new limit frames c =
-    attached-by old new limit n (receiver_by settings) link events frames refl c
+    new-by (Does limit (call.AttachReceiver n settings) (attaching link events) frames) old new limit n
+    (receiver_by settings) link events frames refl c
+call-by (call.Resume link n) (attaching number events) old new limit frames c =
+    again-by (Does limit (call.Resume link n) (attaching number events) frames) old new limit n link number events
+    frames c refl
 call-by (call.AttachSender n settings) answer old new limit frames c = absurd c
 call-by (call.AttachReceiver n settings) answer old new limit frames c = absurd c
+call-by (call.Resume link n) answer old new limit frames c = absurd c
 call-by it answer old new limit frames c =
-    go-by old new (rest-go old.talk.sessions new.talk.sessions (call-rests it tt answer old new limit frames c))
+    go-by (Does limit it answer frames) old new
+    (rest-go old.talk.sessions new.talk.sessions (call-rests it tt answer old new limit frames c))
 
 -- a deed by which no transfer comes, and no link attaches
 abbrev pub IsCalmDeed : Deed → Type 0
@@ -550,21 +593,22 @@ deed-rests Finishes calm old new f =
 
 frame-goes : (it : FrameBody) → IsNotTransfer it → (limit channel : ℕ) (frames : List SessionFrame)
     (events : List Event) (old new : LinkedSessions)
-    → IsDeed linked old (Takes limit (record { channel = channel; body = it }) frames events) new → EachBy old new
+    → IsDeed linked old (Takes limit (record { channel = channel; body = it }) frames events) new
+    → EachBy (Takes limit (record { channel = channel; body = it }) frames events) old new
 frame-goes (body.Transfer transfer payload) other limit channel frames events old new d = absurd other
 frame-goes (body.Attach attach) other limit channel frames events old new d =
-    go-by old new
+    go-by (Takes limit (record { channel = channel; body = body.Attach attach }) frames events) old new
     (attaches-go attach old.talk.sessions new.talk.sessions
     (attach-goes attach old new limit (record { 0 = channel }) frames events d.0))
 frame-goes it other limit channel frames events old new d =
-    go-by old new
+    go-by (Takes limit (record { channel = channel; body = it }) frames events) old new
     (rest-go old.talk.sessions new.talk.sessions
     (deed-rests (Takes limit (record { channel = channel; body = it }) frames events) tt old new d))
 
 pub deed-goes : (deed : Deed) → TakesNoTransfer deed → (old new : LinkedSessions) → IsDeed linked old deed new
-    → EachBy old new
+    → EachBy deed old new
 deed-goes (Takes limit f frames events) other old new d =
     frame-goes f.body other limit f.channel frames events old new d
 deed-goes (Does limit it answer frames) other old new c = call-by it answer old new limit frames c.0
 deed-goes deed other old new d =
-    go-by old new (rest-go old.talk.sessions new.talk.sessions (deed-rests deed tt old new d))
+    go-by deed old new (rest-go old.talk.sessions new.talk.sessions (deed-rests deed tt old new d))

@@ -100,13 +100,13 @@ pub record IsAttached (old new : Holding) : Type 0 where
 abbrev pub Goes : Holding → Holding → Type 0
 Goes old new = IsAttached old new ⊎ Stays old new
 
--- a link that enters holds nothing
-abbrev pub IsFresh : ℕ → Holding → Type 0
-IsFresh number new = (new ≡ None) ⊎ ((attached : Bool) × (new ≡ Some (number, (attached, None))))
+-- a link that attaches holds nothing, where this is so
+abbrev pub IsFresh : Type 0 → ℕ → Holding → Type 0
+IsFresh E number new = (new ≡ None) ⊎ ((part : Part) × (new ≡ Some (number, part)) × (E → part.1 ≡ None))
 
--- it goes on so, or the link with this number enters
-abbrev pub Comes : ℕ → Holding → Holding → Type 0
-Comes number old new = ((old ≡ None) × IsFresh number new) ⊎ Goes old new
+-- it goes on so, or the link with this number attaches
+abbrev pub Comes : Type 0 → ℕ → Holding → Holding → Type 0
+Comes E number old new = ((old ≡ None) × IsFresh E number new) ⊎ Goes old new
 
 pub stays-on : (a b c : Holding) → Stays a b → Stays b c → Stays a c
 stays-on a b c s (inr gone) = inr gone
@@ -118,13 +118,13 @@ goes-on a b c (inl t) (inl is) = inl (record { number = t.number; held = t.held;
 goes-on a b c (inl t) (inr gone) = inr (inr gone)
 goes-on a b c (inr first) s = inr (stays-on a b c first s)
 
-fresh-on : (number : ℕ) (b c : Holding) → IsFresh number b → Stays b c → IsFresh number c
-fresh-on number b c fresh (inl is) = subst (IsFresh number) (sym is) fresh
-fresh-on number b c fresh (inr gone) = inl gone
+fresh-on : (E : Type 0) (number : ℕ) (b c : Holding) → IsFresh E number b → Stays b c → IsFresh E number c
+fresh-on E number b c fresh (inl is) = subst (IsFresh E number) (sym is) fresh
+fresh-on E number b c fresh (inr gone) = inl gone
 
-pub comes-on : (number : ℕ) (a b c : Holding) → Comes number a b → Stays b c → Comes number a c
-comes-on number a b c (inl (none, fresh)) s = inl (none, fresh-on number b c fresh s)
-comes-on number a b c (inr first) s = inr (goes-on a b c first s)
+pub comes-on : (E : Type 0) (number : ℕ) (a b c : Holding) → Comes E number a b → Stays b c → Comes E number a c
+comes-on E number a b c (inl (none, fresh)) s = inl (none, fresh-on E number b c fresh s)
+comes-on E number a b c (inr first) s = inr (goes-on a b c first s)
 
 pub stays-still : (a : Holding) → Stays a a
 stays-still a = inl refl
@@ -319,13 +319,14 @@ abbrev pub IsEmpty : End → Type 0
 IsEmpty (Sender s) = Unit {0}
 IsEmpty (Receiver r) = r.end.held ≡ None
 
-fresh-if : (k : ℕ) (o : Option Bool) (held : Option Delivery) → held ≡ None → IsFresh k (held_if o k held)
-fresh-if k None held none = inl refl
-fresh-if k (Some attached) held none = inr (attached, ap (λ (h : Option Delivery). held_if (Some attached) k h) none)
+fresh-if : (E : Type 0) (k : ℕ) (o : Option Bool) (held : Option Delivery) → (E → held ≡ None)
+    → IsFresh E k (held_if o k held)
+fresh-if E k None held none = inl refl
+fresh-if E k (Some attached) held none = inr ((attached, held), refl, none)
 
-pub empty-fresh : (k : ℕ) (e : End) → IsEmpty e → IsFresh k (held_end k e)
-empty-fresh k (Sender s) empty = inl refl
-empty-fresh k (Receiver r) empty = fresh-if k (stands_so r.base.local_state) r.end.held empty
+pub empty-fresh : (E : Type 0) (k : ℕ) (e : End) → (E → IsEmpty e) → IsFresh E k (held_end k e)
+empty-fresh E k (Sender s) empty = inl refl
+empty-fresh E k (Receiver r) empty = fresh-if E k (stands_so r.base.local_state) r.end.held empty
 
 pub empty-handle : (e : End) (handle : OutputHandle) → IsEmpty e → IsEmpty (with_handle e handle)
 empty-handle (Sender s) handle empty = tt

@@ -121,10 +121,10 @@ rests-on old mid new first later =
       keeps = still-on old mid new first.keeps later;
     }
 
-pub each-comes : (number : ℕ) (old mid new : LinksIn) → Each (Comes number) old mid → Rests mid new
-    → Each (Comes number) old new
-each-comes number old mid new first later h =
-    comes-on number (held_link (link_at old h)) (held_link (link_at mid h)) (held_link (link_at new h)) (first h)
+pub each-comes : (E : Type 0) (number : ℕ) (old mid new : LinksIn) → Each (Comes E number) old mid → Rests mid new
+    → Each (Comes E number) old new
+each-comes E number old mid new first later h =
+    comes-on E number (held_link (link_at old h)) (held_link (link_at mid h)) (held_link (link_at new h)) (first h)
     (later.holds h)
 
 links-same : (old new : LinksIn) → new.links ≡ old.links → Each Stays old new
@@ -237,28 +237,29 @@ freed-stays old new handle s =
       keeps = freed-still old new handle s;
     }
 
-given-comes : (number : ℕ) (old new : LinksIn) (handle : ℕ) (link : Link) → IsFresh number (held_link (Some link))
-    → link_at old handle ≡ None → ((h : ℕ) → link_at new h ≡ (if h == handle then Some link else link_at old h))
-    → Each (Comes number) old new
-given-comes number old new handle link fresh vacant becomes h = by (eqb_tells h handle)
+given-comes : (E : Type 0) (number : ℕ) (old new : LinksIn) (handle : ℕ) (link : Link)
+    → IsFresh E number (held_link (Some link)) → link_at old handle ≡ None → ((h : ℕ) → link_at new h ≡ (if h == handle then Some link else link_at old h))
+    → Each (Comes E number) old new
+given-comes E number old new handle link fresh vacant becomes h = by (eqb_tells h handle)
   where
     by : (((h == handle) ≡ true) × (h ≡ handle)) ⊎ (((h == handle) ≡ false) × (h ≢ handle))
-        → Comes number (held_link (link_at old h)) (held_link (link_at new h))
+        → Comes E number (held_link (link_at old h)) (held_link (link_at new h))
     by (inl p) =
         inl (
           ap held_link (ap (λ (k : ℕ). link_at old k) p.1 ∙ vacant),
-          subst (IsFresh number)
+          subst (IsFresh E number)
               (sym (ap held_link (becomes h ∙ ap (λ (b : Bool). if b then Some link else link_at old h) p.0))) fresh,
         )
     by (inr p) =
         inr (inr (inl (ap held_link (becomes h
         ∙ ap (λ (b : Bool). if b then Some link else link_at old h) p.0))))
 
-pub allocated-comes : (number : ℕ) (old new : LinksIn) (handle : ℕ) (link : Link) (input : Option ℕ)
-    → IsFresh number (held_link (Some link)) → Step gives old (Allocates handle link input) new
-    → Each (Comes number) old new
-allocated-comes number old new handle link None fresh s = given-comes number old new handle link fresh s.1 s.3
-allocated-comes number old new handle link (Some input) fresh s = given-comes number old new handle link fresh s.2 s.4
+pub allocated-comes : (E : Type 0) (number : ℕ) (old new : LinksIn) (handle : ℕ) (link : Link) (input : Option ℕ)
+    → IsFresh E number (held_link (Some link)) → Step gives old (Allocates handle link input) new
+    → Each (Comes E number) old new
+allocated-comes E number old new handle link None fresh s = given-comes E number old new handle link fresh s.1 s.3
+allocated-comes E number old new handle link (Some input) fresh s =
+    given-comes E number old new handle link fresh s.2 s.4
 
 -- a Flow of the peer is taken
 flow-at : (old new : LinksIn) (flow : Flow) (named : Option Handle)

@@ -9,7 +9,6 @@ use Rattle.amqp_link_types.specs.declared.attaching.ReceiverAttachError.{Receive
 use Rattle.amqp_link_base.specs.Flows.{attached as flow_attached}
 use Rattle.amqp_link_base.specs.declared.inner.LinkFlowStateInner.{LinkFlowStateInner}
 use Rattle.amqp_link_base.specs.State.{after_incoming_attach, after_send_attach}
-use Rattle.amqp_link_base.specs.State.{is_attached}
 use Rattle.amqp_link_base.specs.declared.state.LinkState.{LinkState}
 use Rattle.amqp_link_base.specs.declared.state.LinkState.TheVariants as state
 use Rattle.amqp_link_base.specs.Moves.{moved_to}
@@ -26,7 +25,7 @@ use Rattle.amqp_link_receiver.specs.declared.attaching.Attached.{Attached as Att
 use Rattle.amqp_link_receiver.specs.Deliveries.{Delivery}
 use Rattle.amqp_link_sender.specs.Attaching as sending
 use Rattle.amqp_link_sender.specs.Sending.{Sending}
-use Rattle.amqp_endpoint_attached.specs.Links.{attach_sent}
+use Rattle.amqp_endpoint_attached.specs.Links.{attach_sent, is_at_rest}
 use Rattle.amqp_endpoint_laws.proofs.HoldingEnds.{Moves, Part, attach-moves, held_end, held_if, stands_so}
 
 -- a link that takes the peer's Attach waits for it no longer
@@ -77,11 +76,13 @@ attached-waits n (Receiver r) attach (told.Receiver answer) (Receiver after) a k
     (held-waits n (stands_so after.base.local_state) after.end.held k held is)
 attached-waits n e attach told new a k held is = absurd a
 
--- a new link that answers the peer's Attach waits for none
-received : (s t : LinkState) (incomplete : Bool) → s ≡ state.Unattached → after_incoming_attach s incomplete ≡ Some t
+-- a link at rest that answers the peer's Attach waits for none
+received : (s t : LinkState) (incomplete : Bool) → is_at_rest s ≡ true → after_incoming_attach s incomplete ≡ Some t
     → (t ≡ state.AttachReceived) ⊎ (t ≡ state.IncompleteAttachReceived)
 received state.Unattached t false new is = inl (sym (same_Some state.AttachReceived t is))
 received state.Unattached t true new is = inr (sym (same_Some state.IncompleteAttachReceived t is))
+received state.Detached t false new is = inl (sym (same_Some state.AttachReceived t is))
+received state.Detached t true new is = inr (sym (same_Some state.IncompleteAttachReceived t is))
 received s t false new is = absurd cc
 received s t true new is = absurd cc
 
@@ -98,10 +99,12 @@ answered-so state.IncompleteAttachReceived t true r is =
 answered-so s t incomplete (inl is) e = absurd cc
 answered-so s t incomplete (inr is) e = absurd cc
 
-none-unattached : (s : LinkState) (incomplete : Bool) → s ≡ state.Unattached
+none-unattached : (s : LinkState) (incomplete : Bool) → is_at_rest s ≡ true
     → after_incoming_attach s incomplete ≡ None → ⊥
 none-unattached state.Unattached true fresh is = none-some _ (sym is)
 none-unattached state.Unattached false fresh is = none-some _ (sym is)
+none-unattached state.Detached true fresh is = none-some _ (sym is)
+none-unattached state.Detached false fresh is = none-some _ (sym is)
 none-unattached s incomplete fresh is = absurd cc
 
 received-so : (s t : LinkState) → t ≡ s → (s ≡ state.AttachReceived) ⊎ (s ≡ state.IncompleteAttachReceived)
@@ -109,9 +112,9 @@ received-so : (s t : LinkState) → t ≡ s → (s ≡ state.AttachReceived) ⊎
 received-so s t same (inl is) = inl (same ∙ is)
 received-so s t same (inr is) = inr (same ∙ is)
 
--- it is attached: it was new, it took the peer's Attach, and sent its own
+-- it is attached: it was at rest, it took the peer's Attach, and sent its own
 taken-received : (old new : ReceiverState) (attach : Attach) (answer : AttachedTold) (o : Option LinkState)
-    (error : Option ReceiverAttachError) → old.base.local_state ≡ state.Unattached
+    (error : Option ReceiverAttachError) → is_at_rest old.base.local_state ≡ true
     → after_incoming_attach old.base.local_state attach.incomplete_unsettled ≡ o
     → TakesAttach (option_map (λ (s : LinkState). moved_to old.base attach s) o) error old attach (Ok answer) new
     → (new.base.local_state ≡ state.AttachReceived) ⊎ (new.base.local_state ≡ state.IncompleteAttachReceived)
@@ -161,10 +164,14 @@ no-sender-waits : (n : ℕ) (e : End) → IsSender e → (k : ℕ) (held : Optio
 no-sender-waits n (Sender s) so k held is = none-some _ is
 no-sender-waits n (Receiver r) so k held is = absurd so
 
--- of one that is new
+-- of one that is at rest
 abbrev pub IsUnattached : End → Type 0
 IsUnattached (Sender s) = Unit {0}
-IsUnattached (Receiver r) = r.base.local_state ≡ state.Unattached
+IsUnattached (Receiver r) = is_at_rest r.base.local_state ≡ true
+
+pub unattached : (e : End) → is_at_rest (state_of e) ≡ true → IsUnattached e
+unattached (Sender s) rests = tt
+unattached (Receiver r) rests = rests
 
 pub answer-waits : (n : ℕ) (e : End) (attach : Attach) (told : AttachTold) (taken new : End) (handle : OutputHandle)
     (incomplete : Bool) → IsUnattached e → attaches e attach (Ok told) taken

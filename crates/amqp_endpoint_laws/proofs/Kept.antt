@@ -18,7 +18,7 @@ use Rattle.amqp_endpoint_model.specs.declared.call.Call.TheVariants.{Begin, Acce
 use Rattle.amqp_endpoint_model.specs.declared.call.Call.TheVariants.{AttachSender, AttachReceiver, Detach, CloseLink}
 use Rattle.amqp_endpoint_model.specs.declared.call.Call.TheVariants.{Grant, Drain, Credit, HeldBack}
 use Rattle.amqp_endpoint_model.specs.declared.call.Call.TheVariants.{Waiting as WaitingCall}
-use Rattle.amqp_endpoint_model.specs.declared.call.Call.TheVariants.{Send, Dispose, DisposeAll}
+use Rattle.amqp_endpoint_model.specs.declared.call.Call.TheVariants.{Resume, Send, Dispose, DisposeAll}
 use Rattle.amqp_endpoint_model.specs.declared.error.EndpointError.{EndpointError}
 use Rattle.amqp_endpoint_model.specs.declared.error.EndpointError.TheVariants.{AlreadyConnected, NotConnected}
 use Rattle.amqp_endpoint_model.specs.declared.error.EndpointError.TheVariants.{PeerLimitUnder512, Memory}
@@ -282,6 +282,8 @@ module _ {S : Type 0} (does : Relations S) (P : List Event → List (List ℕ) �
         does-call seen tags old (AttachSender n settings) (attaching link events) new tt s p
     step seen tags old (AttachReceiver n settings) (attaching link events) new s p =
         does-call seen tags old (AttachReceiver n settings) (attaching link events) new tt s p
+    step seen tags old (Resume link n) (attaching number events) new s p =
+        does-call seen tags old (Resume link n) (attaching number events) new tt s p
     step seen tags old (Detach link) done new s p =
         does-call seen tags old (Detach link) done new tt s p
     step seen tags old (CloseLink link) (link_closed events) new s p =

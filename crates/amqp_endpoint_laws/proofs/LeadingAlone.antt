@@ -33,6 +33,8 @@ use Rattle.amqp_endpoint_conversation.specs.Windows.{Passing}
 use Rattle.amqp_endpoint_laws.specs.Handed.{IsReceiving, PassesOn, ReachIn, leads_there, pieces_on}
 use Rattle.amqp_endpoint_laws.specs.Held.{number_live, number_of}
 use Rattle.amqp_endpoint_laws.specs.Passed.{is_it}
+use Rattle.amqp_endpoint_laws.proofs.HoldingWaits.{unattached}
+use Rattle.amqp_endpoint_laws.proofs.Placing.{is-again, is-new}
 use Rattle.amqp_endpoint_laws.proofs.HandedBy.{HearsAt, frame-leads}
 use Rattle.amqp_endpoint_laws.proofs.HandedOn.{LeadsOnly, reach-on}
 use Rattle.amqp_endpoint_laws.proofs.HandedOut.{HearsOne, receives-holds, receives-so}
@@ -293,13 +295,20 @@ call-by : (it : Call) (answer : Said) (limit : ℕ) (frames : List SessionFrame)
     → IsDeed linked old (Does limit it answer frames) new → EachLeads old new
 call-by (call.AttachSender number its) (attaching link events) limit frames old new d n =
     enters-by d.0.placed.handle.0 (live_at old.talk.sessions n) (live_at new.talk.sessions n)
-    (attached-enters old.talk new.talk old.links new.links limit number (sender_by its) link events frames tt d.0 n)
+    (attached-enters old.talk new.talk old.links new.links limit number (sender_by its) link events frames tt
+    (is-new old.talk new.talk old.links new.links limit number (sender_by its) link events frames d.0) n)
 call-by (call.AttachReceiver number its) (attaching link events) limit frames old new d n =
     enters-by d.0.placed.handle.0 (live_at old.talk.sessions n) (live_at new.talk.sessions n)
-    (attached-enters old.talk new.talk old.links new.links limit number (receiver_by its) link events frames refl d.0
-    n)
+    (attached-enters old.talk new.talk old.links new.links limit number (receiver_by its) link events frames refl
+    (is-new old.talk new.talk old.links new.links limit number (receiver_by its) link events frames d.0) n)
+call-by (call.Resume link number) (attaching one events) limit frames old new d n =
+    enters-by d.0.placed.handle.0 (live_at old.talk.sessions n) (live_at new.talk.sessions n)
+    (attached-enters old.talk new.talk old.links new.links limit number d.0.resumes.link link events frames
+    (unattached d.0.resumes.link d.0.resumes.may.state)
+    (is-again old.talk new.talk old.links new.links limit number link one events frames d.0) n)
 call-by (call.AttachSender number its) answer limit frames old new d n = absurd d.0
 call-by (call.AttachReceiver number its) answer limit frames old new d n = absurd d.0
+call-by (call.Resume link number) answer limit frames old new d n = absurd d.0
 call-by it answer limit frames old new d n = inl (deed-rests (Does limit it answer frames) tt old new d n)
 
 deed-by : (deed : Deed) (old new : LinkedSessions) → IsDeed linked old deed new → EachLeads old new

@@ -40,7 +40,7 @@ use Rattle.amqp_link_sender.specs.Attaching as sending
 use Rattle.amqp_link_sender.specs.Sending.{Sending}
 use Rattle.amqp_session_types.proofs.Tables.{get-put, get-put-other, get-take-other}
 use Rattle.amqp_endpoint_attached.specs.Linked.{LinksIn, gives}
-use Rattle.amqp_endpoint_attached.specs.Links.{attach_sent}
+use Rattle.amqp_endpoint_attached.specs.Links.{attach_sent, is_at_rest}
 use Rattle.amqp_endpoint_link_hearing.proofs.Heard.{stepped-there}
 use Rattle.amqp_endpoint_linking.specs.Linking.{Link}
 use Rattle.amqp_endpoint_laws.proofs.HoldingEnds.{Holding, IsAttached, Part, held_end, held_if, held_link, stands_so}
@@ -95,9 +95,9 @@ waiting-holds n (Receiver r) k held waits is =
     (same_Some (n, (false, r.end.held)) (k, (true, held))
     (sym (ap (λ (o : Option Bool). held_if o n r.end.held) waits) ∙ is))))
 
--- so does a new one that sent its own
+-- so does one that was at rest and sent its own
 sent-waits : (r : ReceiverState) (s : LinkState) (flow : LinkFlowStateInner) (incomplete : Bool) (new : End)
-    → s ≡ state.Unattached
+    → is_at_rest s ≡ true
     → option_map (λ (x : ReceiverState). Receiver x)
     (option_map (λ (b : LinkBase). record r { base = b; end = record r.end { flow = flow } })
     (option_map (λ (t : LinkState). record r.base { local_state = t }) (after_send_attach s incomplete))) ≡ Some new
@@ -105,6 +105,10 @@ sent-waits : (r : ReceiverState) (s : LinkState) (flow : LinkFlowStateInner) (in
 sent-waits r state.Unattached flow true new fresh sent =
     ap (λ (e : End). stands_so (state_of e)) (sym (same_Some _ new sent))
 sent-waits r state.Unattached flow false new fresh sent =
+    ap (λ (e : End). stands_so (state_of e)) (sym (same_Some _ new sent))
+sent-waits r state.Detached flow true new fresh sent =
+    ap (λ (e : End). stands_so (state_of e)) (sym (same_Some _ new sent))
+sent-waits r state.Detached flow false new fresh sent =
     ap (λ (e : End). stands_so (state_of e)) (sym (same_Some _ new sent))
 sent-waits r s flow true new fresh sent = absurd cc
 sent-waits r s flow false new fresh sent = absurd cc

@@ -90,3 +90,6 @@ mod Sending
 mod Joining
 mod BrokenAlike
 mod RefusedAlike
+pub mod Placing
+pub mod Again
+pub mod Opening

@@ -14,6 +14,7 @@ use Rattle.amqp_endpoint.specs.declared.linked.LinkedSessions.{LinkedSessions}
 use Rattle.amqp_endpoint_tables.specs.State.{live_at}
 use Rattle.amqp_endpoint_laws.specs.Handed.{Handed, NoneResumes, handed_as, handed_by, pieces_in}
 use Rattle.amqp_endpoint_laws.specs.Life.{Reach, ReachBy, StaysAttached, StaysSomewhere}
+use Rattle.amqp_endpoint_laws.specs.Resumed.{IsResumed, NeverResumed}
 use Rattle.amqp_endpoint_laws.proofs.ComesAttachedHeld.{holding-receives}
 use Rattle.amqp_endpoint_laws.proofs.HandedBy.{deed-hands, deed-says}
 use Rattle.amqp_endpoint_laws.proofs.HandedOut.{Receives, Says, StandsAlone, handed-both, is-receiving}
@@ -159,15 +160,16 @@ module _ (link : ℕ) where
         ∙ sym (append-nil (map (handed_as own) reading.messages))
 
     module _ (back_on : BackGoesOn) (left_on : LeftGoesOn) (finished_on : FinishedGoesOn) where
-      on-in : (deed : Deed) (old mid : LinkedSessions) (n h : ℕ) → IsDeed linked old deed mid → IsIn link old n h
-          → IsIn link mid n h
-      on-in deed old mid n h d i = stays-in link deed old mid d back_on left_on finished_on n h i
+      on-in : (deed : Deed) (old mid : LinkedSessions) (n h : ℕ) → (IsResumed link deed → ⊥)
+          → IsDeed linked old deed mid → IsIn link old n h → IsIn link mid n h
+      on-in deed old mid n h never d i = stays-in link deed old mid d back_on left_on finished_on never n h i
 
       -- once its attachment ended
-      pub stays-gone : (deed : Deed) (old mid : LinkedSessions) (n h : ℕ) → IsDeed linked old deed mid → IsIn link old n h
+      pub stays-gone : (deed : Deed) (old mid : LinkedSessions) (n h : ℕ) → (IsResumed link deed → ⊥)
+          → IsDeed linked old deed mid → IsIn link old n h
           → ((x : Part) → held_in (live_at old.talk.sessions n) h ≡ Some (link, x) → x.0 ≡ true)
           → (IsOn mid n h → ⊥) → (x : Part) → held_in (live_at mid.talk.sessions n) h ≡ Some (link, x) → ⊥
-      stays-gone deed old mid n h d i was off x is = by x is (came-so link deed old mid d n h x is)
+      stays-gone deed old mid n h never d i was off x is = by x is (came-so link deed old mid d never n h x is)
         where
           on : (y : Part) → held_in (live_at mid.talk.sessions n) h ≡ Some (link, y) → y.0 ≡ true → ⊥
           on (true, v) is e = off (record { held = v; on = is })
@@ -179,22 +181,22 @@ module _ (link : ℕ) where
           by y is (inr (inl s)) = on y is s.attached
           by y is (inr (inr e)) = i.entered e.none
 
-      gone-tells : (deeds : List Deed) (old new : LinkedSessions) (pieces : List Piece) (n h : ℕ) → IsIn link old n h
-          → ((x : Part) → held_in (live_at old.talk.sessions n) h ≡ Some (link, x) → ⊥)
+      gone-tells : (deeds : List Deed) (old new : LinkedSessions) (pieces : List Piece) (n h : ℕ)
+          → NeverResumed link deeds → IsIn link old n h → ((x : Part) → held_in (live_at old.talk.sessions n) h ≡ Some (link, x) → ⊥)
           → Reach link session own old deeds new pieces → (reading : Reading) → Tells reading pieces deeds
-      gone-tells [] old new pieces n h i gone (same, none) reading = tells-nothing reading pieces none
-      gone-tells (deed ∷ deeds) old new pieces n h i gone (mid, first, later, d, by, rest, is) reading =
+      gone-tells [] old new pieces n h never i gone (same, none) reading = tells-nothing reading pieces none
+      gone-tells (deed ∷ deeds) old new pieces n h never i gone (mid, first, later, d, by, rest, is) reading =
           let apart : StaysSomewhere old mid link → ⊥ =
           λ st. let on = was-on old mid n h i st in gone (true, on.held) on.on in
-          let gone_mid = stays-gone deed old mid n h d i (λ x there. absurd (gone x there))
-          (λ on. elim (came-so link deed old mid d n h (true, on.held) on.on) [
+          let gone_mid = stays-gone deed old mid n h never.0 d i (λ x there. absurd (gone x there))
+          (λ on. elim (came-so link deed old mid d never.0 n h (true, on.held) on.on) [
             | inl there ↦ gone (true, on.held) there
             | inr (inl s) ↦ gone s.part s.there
             | inr (inr e) ↦ i.entered e.none
           ]) in
           tells-none reading pieces first later deed deeds is (none-reach session own deed old mid first by apart)
           (none-handed-so deed old mid d apart)
-          (gone-tells deeds mid new later n h (on-in deed old mid n h d i) gone_mid rest reading)
+          (gone-tells deeds mid new later n h never.1 (on-in deed old mid n h never.0 d i) gone_mid rest reading)
 
       -- while it is attached
       still-tells : (deed : Deed) (deeds : List Deed) (old mid : LinkedSessions) (pieces first later : List Piece)
@@ -225,16 +227,18 @@ module _ (link : ℕ) where
           (tells (readings reading first)
           (so.on ∙ ap (λ (v : Option Delivery). Some (link, (true, v))) one.holds) more)
 
-      on-tells : (deeds : List Deed) (old new : LinkedSessions) (pieces : List Piece) (n h : ℕ) → IsIn link old n h
-          → (reading : Reading)
+      on-tells : (deeds : List Deed) (old new : LinkedSessions) (pieces : List Piece) (n h : ℕ)
+          → NeverResumed link deeds → IsIn link old n h → (reading : Reading)
           → held_in (live_at old.talk.sessions n) h ≡ Some (link, (true, held_said reading.held))
           → Reach link session own old deeds new pieces → NoneResumes pieces → Tells reading pieces deeds
-      on-tells [] old new pieces n h i reading on (same, none) fresh = tells-nothing reading pieces none
-      on-tells (deed ∷ deeds) old new pieces n h i reading on (mid, first, later, d, by, rest, is) fresh =
+      on-tells [] old new pieces n h never i reading on (same, none) fresh = tells-nothing reading pieces none
+      on-tells (deed ∷ deeds) old new pieces n h never i reading on (mid, first, later, d, by, rest, is) fresh =
           elim (on-or-not mid n h) [
             | inl so ↦
                 still-tells deed deeds old mid pieces first later n h i d is reading on so fresh
-                (λ next o more. on-tells deeds mid new later n h (on-in deed old mid n h d i) next o rest more) by
+                (λ next o more.
+                on-tells deeds mid new later n h never.1 (on-in deed old mid n h never.0 d i) next o rest more)
+                by
             | inr off ↦
                 let apart : StaysSomewhere old mid link → ⊥ = λ st. off (is-on old mid n h i st) in
                 let was : (x : Part) → held_in (live_at old.talk.sessions n) h ≡ Some (link, x) → x.0 ≡ true =
@@ -243,28 +247,29 @@ module _ (link : ℕ) where
                 (same_Some (link, x) (link, (true, held_said reading.held)) (sym there ∙ on)) in
                 tells-none reading pieces first later deed deeds is
                 (none-reach session own deed old mid first by apart) (none-handed-so deed old mid d apart)
-                (gone-tells deeds mid new later n h (on-in deed old mid n h d i)
-                (stays-gone deed old mid n h d i was off) rest reading)
+                (gone-tells deeds mid new later n h never.1 (on-in deed old mid n h never.0 d i)
+                (stays-gone deed old mid n h never.0 d i was off) rest reading)
           ]
 
       -- before that
-      off-tells : (deeds : List Deed) (old new : LinkedSessions) (pieces : List Piece) (n h : ℕ) → IsIn link old n h
-          → (IsOn old n h → ⊥) → Reach link session own old deeds new pieces → NoneResumes pieces
+      off-tells : (deeds : List Deed) (old new : LinkedSessions) (pieces : List Piece) (n h : ℕ)
+          → NeverResumed link deeds → IsIn link old n h → (IsOn old n h → ⊥) → Reach link session own old deeds new pieces → NoneResumes pieces
           → Tells nothing pieces deeds
-      off-tells [] old new pieces n h i off (same, none) fresh = tells-nothing nothing pieces none
-      off-tells (deed ∷ deeds) old new pieces n h i off (mid, first, later, d, by, rest, is) fresh =
+      off-tells [] old new pieces n h never i off (same, none) fresh = tells-nothing nothing pieces none
+      off-tells (deed ∷ deeds) old new pieces n h never i off (mid, first, later, d, by, rest, is) fresh =
           let apart : StaysSomewhere old mid link → ⊥ = λ st. off (was-on old mid n h i st) in
           let none = none-reach session own deed old mid first by apart in
           let more = (none-resume first later (subst NoneResumes is fresh)).1 in
           tells-none nothing pieces first later deed deeds is none (none-handed-so deed old mid d apart)
           (elim (on-or-not mid n h) [
             | inl so ↦
-                on-tells deeds mid new later n h (on-in deed old mid n h d i) nothing
+                on-tells deeds mid new later n h never.1 (on-in deed old mid n h never.0 d i) nothing
                 (so.on
                 ∙ ap (λ (v : Option Delivery). Some (link, (true, v)))
-                (newly so (came-so link deed old mid d n h (true, so.held) so.on)))
+                (newly so (came-so link deed old mid d never.0 n h (true, so.held) so.on)))
                 rest more
-            | inr still ↦ off-tells deeds mid new later n h (on-in deed old mid n h d i) still rest more
+            | inr still ↦
+                off-tells deeds mid new later n h never.1 (on-in deed old mid n h never.0 d i) still rest more
           ])
         where
           waited : (part : Part) → held_in (live_at old.talk.sessions n) h ≡ Some (link, part) → part.0 ≡ false
@@ -282,10 +287,10 @@ module _ (link : ℕ) where
           newly so (inr (inr e)) = e.empty
 
       -- and before it had a number
-      pub unentered-tells : (deeds : List Deed) (old new : LinkedSessions) (pieces : List Piece) → IsUnentered link old
-          → Reach link session own old deeds new pieces → NoneResumes pieces → Tells nothing pieces deeds
-      unentered-tells [] old new pieces u (same, none) fresh = tells-nothing nothing pieces none
-      unentered-tells (deed ∷ deeds) old new pieces u (mid, first, later, d, by, rest, is) fresh =
+      pub unentered-tells : (deeds : List Deed) (old new : LinkedSessions) (pieces : List Piece)
+          → NeverResumed link deeds → IsUnentered link old → Reach link session own old deeds new pieces → NoneResumes pieces → Tells nothing pieces deeds
+      unentered-tells [] old new pieces never u (same, none) fresh = tells-nothing nothing pieces none
+      unentered-tells (deed ∷ deeds) old new pieces never u (mid, first, later, d, by, rest, is) fresh =
           let apart : StaysSomewhere old mid link → ⊥ =
           λ st.
           let (in_it, by_it, stays) = st in
@@ -295,15 +300,15 @@ module _ (link : ℕ) where
           tells-none nothing pieces first later deed deeds is (none-reach session own deed old mid first by apart)
           (none-handed-so deed old mid d apart)
           (elim (known-first link deed old mid d u) [
-            | inl next ↦ unentered-tells deeds mid new later next rest more
+            | inl next ↦ unentered-tells deeds mid new later never.1 next rest more
             | inr (n, h, i) ↦ elim (on-or-not mid n h) [
               | inl so ↦
-                  on-tells deeds mid new later n h i nothing
+                  on-tells deeds mid new later n h never.1 i nothing
                   (so.on
                   ∙ ap (λ (v : Option Delivery). Some (link, (true, v)))
-                  (newly n h so (came-so link deed old mid d n h (true, so.held) so.on)))
+                  (newly n h so (came-so link deed old mid d never.0 n h (true, so.held) so.on)))
                   rest more
-              | inr off ↦ off-tells deeds mid new later n h i off rest more
+              | inr off ↦ off-tells deeds mid new later n h never.1 i off rest more
             ]
           ])
         where
@@ -324,13 +329,14 @@ module _ (link : ℕ) where
     reach-from session own deed deeds old mid new d first by (later, rest) =
         (first ++ later, (mid, first, later, d, by, rest, refl))
 
-    reach-in : (deeds : List Deed) (old new : LinkedSessions) (n h : ℕ) → IsIn link old n h
+    reach-in : (deeds : List Deed) (old new : LinkedSessions) (n h : ℕ) → NeverResumed link deeds → IsIn link old n h
         → AreDone linked old deeds new → Some-reach n (record { 0 = h }) old deeds new
-    reach-in [] old new n h i same = ([], (same, refl))
-    reach-in (deed ∷ deeds) old new n h i (mid, d, rest) =
+    reach-in [] old new n h never i same = ([], (same, refl))
+    reach-in (deed ∷ deeds) old new n h never i (mid, d, rest) =
         let own : OutputHandle = record { 0 = h } in
         let more =
-        reach-in deeds mid new n h (stays-in link deed old mid d back_on left_on finished_on n h i) rest in
+        reach-in deeds mid new n h never.1
+        (stays-in link deed old mid d back_on left_on finished_on never.0 n h i) rest in
         elim (on-or-not old n h) [
           | inl a ↦ elim (on-or-not mid n h) [
             | inl b ↦
@@ -343,11 +349,11 @@ module _ (link : ℕ) where
               reach-from n own deed deeds old mid new d [] (inr ((λ st. off (was-on old mid n h i st)), refl)) more
         ]
 
-    pub reach-some : (deeds : List Deed) (old new : LinkedSessions) → IsUnentered link old
+    pub reach-some : (deeds : List Deed) (old new : LinkedSessions) → NeverResumed link deeds → IsUnentered link old
         → AreDone linked old deeds new
         → (session : ℕ) × (own : OutputHandle) × (pieces : List Piece) × Reach link session own old deeds new pieces
-    reach-some [] old new u same = (0, record { 0 = 0 }, [], (same, refl))
-    reach-some (deed ∷ deeds) old new u (mid, d, rest) =
+    reach-some [] old new never u same = (0, record { 0 = 0 }, [], (same, refl))
+    reach-some (deed ∷ deeds) old new never u (mid, d, rest) =
         let apart : StaysSomewhere old mid link → ⊥ =
         λ st.
         let (in_it, by_it, stays) = st in
@@ -355,13 +361,14 @@ module _ (link : ℕ) where
         (receives-holds old link in_it by_it stays.held (receives-so old link in_it by_it stays.held stays.before)) in
         elim (known-first link deed old mid d u) [
           | inl next ↦
-              let (session, own, later, reach) = reach-some deeds mid new next rest in
+              let (session, own, later, reach) = reach-some deeds mid new never.1 next rest in
               let (pieces, all) =
               reach-from session own deed deeds old mid new d [] (inr (apart, refl)) (later, reach) in
               (session, own, pieces, all)
           | inr (n, h, i) ↦
               let own : OutputHandle = record { 0 = h } in
               let (pieces, all) =
-              reach-from n own deed deeds old mid new d [] (inr (apart, refl)) (reach-in deeds mid new n h i rest) in
+              reach-from n own deed deeds old mid new d [] (inr (apart, refl)) (reach-in deeds mid new n h never.1 i rest)
+              in
               (n, own, pieces, all)
         ]

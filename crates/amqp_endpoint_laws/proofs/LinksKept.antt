@@ -39,11 +39,13 @@ use Rattle.amqp_endpoint_link_hearing.specs.Detaching.{Becomes}
 use Rattle.amqp_endpoint_link_hearing.specs.Flowing.{LeaveWith, LeavesOnce, LeavesWith, LetsGo, ended_link}
 use Rattle.amqp_endpoint_link_hearing.specs.Heard.{session_of}
 use Rattle.amqp_endpoint_link_hearing.specs.Leaving.{IsLeft}
-use Rattle.amqp_endpoint.specs.Attaching.{LinkAttached}
+use Rattle.amqp_endpoint.specs.Attaching.{LinkAttached, LinkResumed}
 use Rattle.amqp_endpoint.specs.Calling.{Calls}
 use Rattle.amqp_endpoint.specs.Does.{linked}
 use Rattle.amqp_endpoint.specs.Hearing.{Hears}
 use Rattle.amqp_endpoint.specs.declared.linked.LinkedSessions.{LinkedSessions}
+use Rattle.amqp_endpoint_laws.specs.Deeds.{Deed, IsDeed}
+use Rattle.amqp_endpoint_laws.proofs.DeedsKept.{MayBe, deed-keeps-if}
 use Rattle.amqp_endpoint_laws.proofs.Keeping.{Keeps, KeepsSilent}
 use Rattle.amqp_endpoint_laws.specs.Linking.{HaveCome}
 use Rattle.amqp_endpoint_laws.proofs.Kept.{run-keeps}
@@ -63,46 +65,52 @@ LeftGoesOn = (old new : Talk) (links links_new : Links) → Leaves old links new
 abbrev pub FinishedGoesOn : Type 0
 FinishedGoesOn = (old new : Talk) (links links_new : Links) → Finishes old links new links_new → GoOn links links_new
 
--- a step by which no link attaches again
-abbrev pub HoldsNone : Act End → Type 0
-HoldsNone (Holds number session handle link) = ⊥
-HoldsNone step = Unit {0}
+-- a step by which no link attaches again but one of these
+abbrev pub HoldsOnly : (ℕ → Type 0) → Act End → Type 0
+HoldsOnly allows (Holds number session handle link) = allows number
+HoldsOnly allows step = Unit {0}
 
 -- each of them
-abbrev AllHoldNone : List (Act End) → Type 0
-AllHoldNone [] = Unit {0}
-AllHoldNone (step ∷ steps) = HoldsNone step × AllHoldNone steps
+abbrev AllHoldOnly : (ℕ → Type 0) → List (Act End) → Type 0
+AllHoldOnly allows [] = Unit {0}
+AllHoldOnly allows (step ∷ steps) = HoldsOnly allows step × AllHoldOnly allows steps
 
-given-holds-none : (step : Act End) → IsGivenBack step → HoldsNone step
-given-holds-none (Holds number session handle link) back = absurd back
-given-holds-none step back = tt
+-- and a call
+abbrev pub MayHold : (ℕ → Type 0) → Call → Type 0
+MayHold allows (call.Resume number session) = allows number
+MayHold allows it = Unit {0}
 
-hold-none : (steps : List (Act End)) → All IsGivenBack steps → AllHoldNone steps
-hold-none [] given = tt
-hold-none (step ∷ steps) given = (
-  given-holds-none step (All-head IsGivenBack step steps given),
-  hold-none steps (All-tail IsGivenBack step steps given),
+given-holds : (allows : ℕ → Type 0) (step : Act End) → IsGivenBack step → HoldsOnly allows step
+given-holds allows (Holds number session handle link) back = absurd back
+given-holds allows step back = tt
+
+hold-only : (allows : ℕ → Type 0) (steps : List (Act End)) → All IsGivenBack steps → AllHoldOnly allows steps
+hold-only allows [] given = tt
+hold-only allows (step ∷ steps) given = (
+  given-holds allows step (All-head IsGivenBack step steps given),
+  hold-only allows steps (All-tail IsGivenBack step steps given),
 )
 
 -- what each such step keeps is kept by all that an endpoint does
-module _ (P : Links → Type 0)
-    (kept : (step : Act End) (old new : Links) → HoldsNone step → Step old step new → P old → P new)
+module _ (P : Links → Type 0) (allows : ℕ → Type 0)
+    (kept : (step : Act End) (old new : Links) → HoldsOnly allows step → Step old step new → P old → P new)
     (back_on : BackGoesOn) where
-  all-kept : (steps : List (Act End)) (old new : Links) → AllHoldNone steps → History old steps new → P old → P new
+  all-kept : (steps : List (Act End)) (old new : Links) → AllHoldOnly allows steps → History old steps new → P old
+      → P new
   all-kept [] old new none same p = subst P (sym same) p
   all-kept (step ∷ steps) old new (one, others) (mid, stepped, rest) p =
       all-kept steps mid new others rest (kept step old mid one stepped p)
 
   -- by further steps
   module _ (old new : Links) (came : P old) where
-    by : (steps : List (Act End)) → AllHoldNone steps → History old steps new → P new
+    by : (steps : List (Act End)) → AllHoldOnly allows steps → History old steps new → P new
     by steps none h = all-kept steps old new none h came
 
     same : new ≡ old → P new
     same is = subst P (sym is) came
 
     goes-on : GoOn old new → P new
-    goes-on g = by g.steps (hold-none g.steps g.given_back) g.history
+    goes-on g = by g.steps (hold-only allows g.steps g.given_back) g.history
 
     back : (left : List Link) → AllGivenBack old left new → P new
     back left given = goes-on (back_on old new left given)
@@ -130,6 +138,12 @@ module _ (P : Links → Type 0)
     attached old_talk new_talk limit session link number events frames a =
         by (MakesRoom _ ∷ Enters _ _ _ _ ∷ []) (tt, (tt, tt))
         (with_room old, (a.attaches.entered.0, refl), (new, a.attaches.entered, refl))
+
+    resumed : (old_talk new_talk : Talk) (limit link session number : ℕ) (events : List Event)
+        (frames : List SessionFrame) → allows link
+        → LinkResumed old_talk old limit link session number events frames new_talk new → P new
+    resumed old_talk new_talk limit link session number events frames allowed r =
+        by (Holds link session r.placed.handle r.resumes.link ∷ []) (allowed, tt) (new, r.resumes.held, refl)
 
     closed-held : (parted : Bool) (session : ℕ) (handle : OutputHandle) (number : ℕ) (events : List Event)
         (old_talk new_talk : Talk) (frames : List SessionFrame) → place_at old number ≡ Some (Held session handle)
@@ -218,38 +232,41 @@ module _ (P : Links → Type 0)
   heard said old new links links_new given given_new limit channel frames events h came = absurd h
 
   called : (by_call : Call) (answer : Said) (old new : LinkedSessions) (limit : ℕ)
-      (frames : List SessionFrame) → Calls old limit by_call answer frames new → P old.links → P new.links
-  called call.Begin (session_begun n) old new limit frames c came = same old.links new.links came c.same
-  called (call.AcceptBegin channel) (session_begun n) old new limit frames c came =
+      (frames : List SessionFrame) → MayHold allows by_call → Calls old limit by_call answer frames new → P old.links
+      → P new.links
+  called call.Begin (session_begun n) old new limit frames may c came = same old.links new.links came c.same
+  called (call.AcceptBegin channel) (session_begun n) old new limit frames may c came =
       same old.links new.links came c.same
-  called (call.End n) done old new limit frames c came = back old.links new.links came _ c.back
-  called (call.IsEnded n) (truth b) old new limit frames c came =
+  called (call.End n) done old new limit frames may c came = back old.links new.links came _ c.back
+  called (call.IsEnded n) (truth b) old new limit frames may c came =
       same old.links new.links came (ap (λ (s : LinkedSessions). s.links) c.same)
-  called (call.TryEnd n) (tried_end o) old new limit frames c came =
+  called (call.TryEnd n) (tried_end o) old new limit frames may c came =
       same old.links new.links came (ap (λ (s : LinkedSessions). s.links) c.rest)
-  called (call.AttachSender n settings) (attaching link events) old new limit frames c came =
+  called (call.AttachSender n settings) (attaching link events) old new limit frames may c came =
       attached old.links new.links came old.talk new.talk limit n _ link events frames c
-  called (call.AttachReceiver n settings) (attaching link events) old new limit frames c came =
+  called (call.AttachReceiver n settings) (attaching link events) old new limit frames may c came =
       attached old.links new.links came old.talk new.talk limit n _ link events frames c
-  called (call.Detach link) done old new limit frames c came = same old.links new.links came c.same
-  called (call.CloseLink link) (link_closed events) old new limit frames c came =
+  called (call.Resume link n) (attaching number events) old new limit frames may c came =
+      resumed old.links new.links came old.talk new.talk limit link n number events frames may c
+  called (call.Detach link) done old new limit frames may c came = same old.links new.links came c.same
+  called (call.CloseLink link) (link_closed events) old new limit frames may c came =
       closed-at old.links new.links came _ link events old.talk new.talk frames refl c
-  called (call.Grant link n) (credit_is left) old new limit frames c came =
+  called (call.Grant link n) (credit_is left) old new limit frames may c came =
       same old.links new.links came c.same
-  called (call.Drain link) done old new limit frames c came = same old.links new.links came c.same
-  called (call.Send link message) (message_sent tag outcome) old new limit frames c came =
+  called (call.Drain link) done old new limit frames may c came = same old.links new.links came c.same
+  called (call.Send link message) (message_sent tag outcome) old new limit frames may c came =
       same old.links new.links came c.same
-  called (call.Dispose link message disposal) done old new limit frames c came =
+  called (call.Dispose link message disposal) done old new limit frames may c came =
       same old.links new.links came c.same
-  called (call.DisposeAll link messages disposal) done old new limit frames c came =
+  called (call.DisposeAll link messages disposal) done old new limit frames may c came =
       same old.links new.links came c.same
-  called (call.Credit link) (credit_is left) old new limit frames c came =
+  called (call.Credit link) (credit_is left) old new limit frames may c came =
       same old.links new.links came (ap (λ (s : LinkedSessions). s.links) c.same)
-  called (call.HeldBack n) (count m) old new limit frames c came =
+  called (call.HeldBack n) (count m) old new limit frames may c came =
       same old.links new.links came (ap (λ (s : LinkedSessions). s.links) c.same)
-  called (call.Waiting n) (waiting turn) old new limit frames c came =
+  called (call.Waiting n) (waiting turn) old new limit frames may c came =
       same old.links new.links came (ap (λ (s : LinkedSessions). s.links) c.same)
-  called by_call answer old new limit frames c came = absurd c
+  called by_call answer old new limit frames may c came = absurd c
 
   module _ (left_on : LeftGoesOn) (finished_on : FinishedGoesOn) where
     links-keep-silent : KeepsSilent linked (λ phase s. P s.links)
@@ -265,8 +282,24 @@ module _ (P : Links → Type 0)
               goes-on old.links new.links came (finished_on old.talk new.talk old.links new.links f.0);
         }
 
-    pub links-keep : Keeps linked (λ seen tags phase s. P s.links)
-    links-keep =
+    -- by each deed by which no link attaches again but one of these
+    pub links-kept : (deed : Deed) (old new : LinkedSessions) → MayBe (MayHold allows) deed
+        → IsDeed linked old deed new → P old.links → P new.links
+    links-kept deed old new may d came =
+        deed-keeps-if linked (λ s. P s.links) links-keep-silent
+        (λ old new limit channel said frames events h came.
+        heard said old.talk new.talk old.links new.links old.given new.given limit (record { 0 = channel }) frames
+        events h.0 came)
+        (MayHold allows)
+        (λ old new limit by_call answer frames may c came. called by_call answer old new limit frames may c.0 came)
+        deed old new may d came
+
+    may-hold : ((n : ℕ) → allows n) → (it : Call) → MayHold allows it
+    may-hold free (call.Resume number session) = free number
+    may-hold free it = tt
+
+    pub links-keep : ((n : ℕ) → allows n) → Keeps linked (λ seen tags phase s. P s.links)
+    links-keep free =
         record {
           silent = λ seen tags. links-keep-silent;
           told = λ seen tags event phase s theirs came. came;
@@ -274,11 +307,12 @@ module _ (P : Links → Type 0)
               heard said old.talk new.talk old.links new.links old.given new.given limit
               (record { 0 = channel }) frames events h.0 came;
           called = λ seen tags phase old new limit by_call answer frames may c came.
-              called by_call answer old new limit frames c.0 came;
+              called by_call answer old new limit frames (may-hold free by_call) c.0 came;
         }
 
-come-on : (step : Act End) (old new : Links) → HoldsNone step → Step old step new → HaveCome old → HaveCome new
-come-on step old new none stepped came =
+come-on : (step : Act End) (old new : Links) → HoldsOnly (λ n. Unit {0}) step → Step old step new → HaveCome old
+    → HaveCome new
+come-on step old new free stepped came =
     record {
       steps = came.steps ++ step ∷ [];
       history = more fresh old new came.steps (step ∷ []) came.history (new, stepped, refl);
@@ -290,7 +324,7 @@ pub have-come : (back_on : BackGoesOn) (left_on : LeftGoesOn) (finished_on : Fin
     → Run linked (fresh_endpoint settings sessions) calls told end → HaveCome end.sessions.links
 have-come back_on left_on finished_on sessions settings calls told end new run =
     run-keeps linked (λ seen tags phase s. HaveCome s.links)
-    (links-keep HaveCome come-on back_on left_on finished_on) [] [] (fresh_endpoint settings sessions) end calls told run
+    (links-keep HaveCome (λ n. Unit {0}) come-on back_on left_on finished_on (λ n. tt)) [] [] (fresh_endpoint settings sessions) end calls told run
     (record { steps = []; history = ap (λ (s : LinkedSessions). s.links) new.is })
 
 pub are-apart : (links : Links) → HaveCome links → AreApart links.links

@@ -1,4 +1,4 @@
--- A link that a session holds was held by it all the time, since it was entered: none attaches again.
+-- A link that a session holds was held by it all the time, since it was entered, where it never attached again.
 use Rattle.std.proofs.Common.{◌≡◌, ◌≢◌, ◌==◌, ◌⊎◌, inl, inr, ℕ, Bool, true, false, List, [], ◌∷◌, Option, Some, None}
 use Rattle.std.proofs.Common.{ap, refl, sym, subst}
 use Rattle.std.proofs.Common.{◌∙◌}
@@ -14,13 +14,17 @@ use Rattle.amqp_endpoint_tables.specs.LinkSteps.{Step}
 use Rattle.amqp_endpoint_tables.specs.declared.link_place.LinkPlace.{LinkPlace}
 use Rattle.amqp_endpoint_tables.specs.declared.link_place.LinkPlace.TheVariants.{AtRest, Held}
 use Rattle.amqp_endpoint_tables.specs.declared.link_place.Named.{Named}
-use Rattle.amqp_endpoint_tables.proofs.OwningLinks.{at}
-use Rattle.amqp_endpoint_laws.specs.Deeds.{AreDone, Deed, IsDeed}
+use Rattle.amqp_endpoint_tables.proofs.OwningLinks.{at, same_number}
+use Rattle.amqp_endpoint_model.specs.declared.call.Call.{Call}
+use Rattle.amqp_endpoint_model.specs.declared.call.Call.TheVariants as call
+use Rattle.amqp_endpoint_laws.specs.Deeds.{AreDone, Deed, Does, IsDeed}
+use Rattle.amqp_endpoint_laws.specs.Resumed.{IsResumed, NeverResumed, Resumes}
 use Rattle.amqp_endpoint_linking.specs.Linking.{Links}
 use Rattle.amqp_endpoint.specs.Does.{linked}
 use Rattle.amqp_endpoint.specs.declared.linked.LinkedSessions.{LinkedSessions}
-use Rattle.amqp_endpoint_laws.proofs.DeedsKept.{deed-keeps}
-use Rattle.amqp_endpoint_laws.proofs.LinksKept.{BackGoesOn, FinishedGoesOn, HoldsNone, LeftGoesOn, links-keep}
+use Rattle.amqp_endpoint_laws.proofs.DeedsKept.{MayBe, deed-keeps}
+use Rattle.amqp_endpoint_laws.proofs.LinksKept.{BackGoesOn, FinishedGoesOn, HoldsOnly, LeftGoesOn, MayHold}
+use Rattle.amqp_endpoint_laws.proofs.LinksKept.{links-keep, links-kept}
 
 abbrev Slot : Type 0
 Slot = Option (Option (Named End))
@@ -39,6 +43,15 @@ module _ (link session : ℕ) (handle : OutputHandle) where
   none-here : None ≢ Some here
   none-here is = absurd cc
 
+  -- a step by which no link attaches again
+  abbrev HoldsNone : Act End → Type 0
+  HoldsNone (Holds number n h it) = ⊥
+  HoldsNone step = Unit {0}
+
+  -- or none but others than this
+  abbrev IsOther : ℕ → Type 0
+  IsOther number = number ≡ link → ⊥
+
   elsewhere-on : (step : Act End) (old new : Slot) → HoldsNone step → SlotStep old step new → IsElsewhere old
       → IsElsewhere new
   elsewhere-on (MakesRoom name) old new none s e = absurd s
@@ -52,18 +65,23 @@ module _ (link session : ℕ) (handle : OutputHandle) where
   elsewhere-on (Closes number place) old new none (stood, was, there, is) e =
       subst IsElsewhere (sym is) ((λ same. absurd (none-some _ (sym same))), none-here)
 
+  holds-none : (step : Act End) → HoldsOnly IsOther step → is_about link step ≡ true → HoldsNone step
+  holds-none (Holds number n h it) other about = other (sym (same_number link number about))
+  holds-none step other about = tt
+
   -- it stays so
-  stays-elsewhere : (step : Act End) (old new : Links) → HoldsNone step → Step old step new
+  stays-elsewhere : (step : Act End) (old new : Links) → HoldsOnly IsOther step → Step old step new
       → IsElsewhere (slot_at old link) → IsElsewhere (slot_at new link)
   stays-elsewhere step old new none s e = by (is_about link step) refl
     where
       by : (b : Bool) → is_about link step ≡ b → IsElsewhere (slot_at new link)
       by true about =
-          elsewhere-on step (slot_at old link) (slot_at new link) none ((at link old step new s).about about) e
+          elsewhere-on step (slot_at old link) (slot_at new link) (holds-none step none about)
+          ((at link old step new s).about about) e
       by false about = subst IsElsewhere (sym ((at link old step new s).other about)) e
 
   -- and it stays entered
-  stays-entered : (step : Act End) (old new : Links) → HoldsNone step → Step old step new
+  stays-entered : (step : Act End) (old new : Links) → HoldsOnly (λ n. Unit {0}) step → Step old step new
       → slot_at old link ≢ None → slot_at new link ≢ None
   stays-entered step old new none s e = by (is_about link step) refl
     where
@@ -100,24 +118,35 @@ module _ (link session : ℕ) (handle : OutputHandle) where
         → slot_at old.links link ≢ None → slot_at new.links link ≢ None
     entered-before deed old new d e =
         deed-keeps linked (λ s. slot_at s.links link ≢ None)
-        (links-keep (λ ls. slot_at ls link ≢ None) stays-entered back_on left_on finished_on) deed old new d e
+        (links-keep (λ ls. slot_at ls link ≢ None) (λ n. Unit {0}) stays-entered back_on left_on finished_on (λ n. tt))
+        deed old new d e
+
+    may-call : (it : Call) → (Resumes link it → ⊥) → MayHold IsOther it
+    may-call (call.Resume number n) never = never
+    may-call it never = tt
+
+    may-be : (deed : Deed) → (IsResumed link deed → ⊥) → MayBe (MayHold IsOther) deed
+    may-be (Does limit it answer frames) never = may-call it never
+    may-be deed never = tt
 
     -- behind a deed it is held so, and it was before
-    pub held-before : (deed : Deed) (old new : LinkedSessions) → IsDeed linked old deed new
-        → slot_at old.links link ≢ None → place_at new.links link ≡ Some here → place_at old.links link ≡ Some here
-    held-before deed old new d e held =
+    pub held-before : (deed : Deed) (old new : LinkedSessions) → (IsResumed link deed → ⊥)
+        → IsDeed linked old deed new → slot_at old.links link ≢ None → place_at new.links link ≡ Some here
+        → place_at old.links link ≡ Some here
+    held-before deed old new never d e held =
         elim (held-or-not (place_at old.links link)) [
           | inl is ↦ is
           | inr other ↦
               absurd
-              ((deed-keeps linked (λ s. IsElsewhere (slot_at s.links link))
-              (links-keep (λ ls. IsElsewhere (slot_at ls link)) stays-elsewhere back_on left_on finished_on) deed
-              old new d (e, other)).1
+              ((links-kept (λ ls. IsElsewhere (slot_at ls link)) IsOther stays-elsewhere back_on left_on finished_on
+              deed old new (may-be deed never) d (e, other)).1
               held)
         ]
 
-    pub held-since : (deeds : List Deed) (old new : LinkedSessions) → AreDone linked old deeds new
-        → slot_at old.links link ≢ None → place_at new.links link ≡ Some here → place_at old.links link ≡ Some here
-    held-since [] old new same e held = ap (λ (s : LinkedSessions). place_at s.links link) (sym same) ∙ held
-    held-since (deed ∷ deeds) old new (mid, one, rest) e held =
-        held-before deed old mid one e (held-since deeds mid new rest (entered-before deed old mid one e) held)
+    pub held-since : (deeds : List Deed) (old new : LinkedSessions) → NeverResumed link deeds
+        → AreDone linked old deeds new → slot_at old.links link ≢ None → place_at new.links link ≡ Some here
+        → place_at old.links link ≡ Some here
+    held-since [] old new never same e held = ap (λ (s : LinkedSessions). place_at s.links link) (sym same) ∙ held
+    held-since (deed ∷ deeds) old new never (mid, one, rest) e held =
+        held-before deed old mid never.0 one e
+        (held-since deeds mid new never.1 rest (entered-before deed old mid one e) held)

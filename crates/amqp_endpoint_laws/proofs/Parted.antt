@@ -1,5 +1,6 @@
 -- Links that are held no longer, and one that comes to be held.
-use Rattle.std.proofs.Common.{◌≡◌, ◌==◌, ℕ, Bool, true, false, List, Option, Some, None, Ok, Err, ap, refl, sym, ◌∙◌}
+use Rattle.std.proofs.Common.{◌≡◌, ◌≢◌, ◌==◌, ℕ, Bool, true, false, List, Option, Some, None, Ok, Err, ap, refl, sym}
+use Rattle.std.proofs.Common.{◌∙◌}
 use Rattle.std.specs.Prelude.{Result, ⊤, if◌then◌else◌}
 use Rattle.std.proofs.lemmas.Bool.{eq-eqb}
 use Rattle.std.proofs.lemmas.Option.{none-some, same_Some}
@@ -108,6 +109,13 @@ module _ {L : Type 0} where
         held = ap holder is;
         other = λ link e. (at link old (Enters number name session handle) new s).other e;
       }
+
+  -- one comes to hold a link that none held, and that isn't closed
+  pub record ComesIn (number session : ℕ) (handle : OutputHandle) (old new : State L) : Type 0 where
+    pub vacant : held_at old number ≡ None
+    pub unclosed : slot_at old number ≢ Some None
+    pub held : held_at new number ≡ Some (session, handle)
+    pub other : (link : ℕ) → (link == number) ≡ false → slot_at new link ≡ slot_at old link
 
   -- one is closed
   pub record Shut (number : ℕ) (old new : State L) : Type 0 where

@@ -23,7 +23,6 @@ use Rattle.amqp_endpoint_link_calls.proofs.Inside.{gives-inside}
 use Rattle.amqp_endpoint_link_calls.specs.Disposing.{DisposedAt, disposes_of_all, disposes_of_one}
 use Rattle.amqp_endpoint_link_calls.specs.Sending.{sends}
 use Rattle.amqp_endpoint_link_calls.proofs.MessagesInside.{disposes-inside, disposes-one-inside, sends-inside}
-use Rattle.amqp_endpoint.specs.Attaching.{LinkAttached}
 use Rattle.amqp_endpoint.specs.Calling.{Calls, answer_of}
 use Rattle.amqp_endpoint.specs.Sending.{tag_of}
 use Rattle.amqp_endpoint.specs.declared.linked.LinkedSessions.{LinkedSessions}
@@ -36,6 +35,7 @@ use Rattle.amqp_endpoint_laws.proofs.AskedCameInside.{KeepsBy, attached-keeps, c
 use Rattle.amqp_endpoint_laws.proofs.AskedCameInside.{disposes-keep, disposes-one-keeps, drains-keep, gives-keeps}
 use Rattle.amqp_endpoint_laws.proofs.AskedCameInside.{failing-keeps, sends-keep}
 use Rattle.amqp_endpoint_laws.proofs.PassedWalk.{AttachGoes, Walk}
+use Rattle.amqp_endpoint_laws.proofs.Placing.{IsPlaced, is-again, is-new}
 
 -- a call that sends a message
 abbrev pub IsSend : Call → Type 0
@@ -46,6 +46,7 @@ IsSend it = ⊥
 abbrev pub IsAttaching : Call → Type 0
 IsAttaching (call.AttachSender number settings) = Unit {0}
 IsAttaching (call.AttachReceiver number settings) = Unit {0}
+IsAttaching (call.Resume link number) = Unit {0}
 IsAttaching it = ⊥
 
 module _ {Allows : Batches → Type 0} (P : ℕ → List Wired → Talk → Talk → Type 0)
@@ -118,7 +119,7 @@ module _ {Allows : Batches → Type 0} (P : ℕ → List Wired → Talk → Talk
 
   attached : (old new : Talk) (links links_new : LinksBy) (limit session : ℕ) (link : End) (number : ℕ)
       (events : List Event) (frames : List SessionFrame) → AttachGoes P
-      → LinkAttached old links limit session link number events frames new links_new
+      → IsPlaced old links limit session link number events frames new links_new
       → Q (Some session) (goes frames) old new
   attached old new links links_new limit session link number events frames first a =
       let l = a.attaches in
@@ -155,9 +156,14 @@ module _ {Allows : Batches → Type 0} (P : ℕ → List Wired → Talk → Talk
       (w.silent None n old.talk new.talk
       (w.told n (answer_of o) old.talk new.talk c.tells (ap (λ (s : LinkedSessions). s.talk) c.rest)))
   called (call.AttachSender n settings) (attaching link events) old new limit frames may first c =
-      attached old.talk new.talk old.links new.links limit n _ link events frames (first tt) c
+      attached old.talk new.talk old.links new.links limit n _ link events frames (first tt)
+      (is-new old.talk new.talk old.links new.links limit n _ link events frames c)
   called (call.AttachReceiver n settings) (attaching link events) old new limit frames may first c =
-      attached old.talk new.talk old.links new.links limit n _ link events frames (first tt) c
+      attached old.talk new.talk old.links new.links limit n _ link events frames (first tt)
+      (is-new old.talk new.talk old.links new.links limit n _ link events frames c)
+  called (call.Resume link n) (attaching number events) old new limit frames may first c =
+      attached old.talk new.talk old.links new.links limit n _ link events frames (first tt)
+      (is-again old.talk new.talk old.links new.links limit n link number events frames c)
   called (call.Detach link) done old new limit frames may first c =
       done-at (detaches false) (link_place old.links link) old.talk new.talk frames (detaches-inside false)
       (detaches-keep false) c.is_done

@@ -10,8 +10,7 @@ use Rattle.amqp_session_core.specs.State.{link_at}
 use Rattle.amqp_link.specs.declared.end.End.{End}
 use Rattle.amqp_link_base.specs.Readings.{Piece}
 use Rattle.amqp_endpoint_attached.specs.Linked.{Linked, LinksIn, gives}
-use Rattle.amqp_endpoint_attached.specs.Links.{attach_frame, sender_by}
-use Rattle.amqp_endpoint_laws.specs.Deeds.{AreDone, Deed, Does, IsDeed}
+use Rattle.amqp_endpoint_laws.specs.Deeds.{AreDone, Deed, IsDeed}
 use Rattle.amqp_endpoint_link_calls.specs.Attaching.{AttachedBy, with_room}
 use Rattle.amqp_endpoint_link_calls.specs.Naming.{name_of}
 use Rattle.amqp_endpoint_link_calls.specs.declared.placed.Placed.{Placed}
@@ -20,12 +19,10 @@ use Rattle.amqp_endpoint.specs.Does.{linked}
 use Rattle.amqp_endpoint.specs.declared.linked.LinkedSessions.{LinkedSessions}
 use Rattle.amqp_endpoint_linking.specs.Linking.{Session, Stood}
 use Rattle.amqp_endpoint_model.specs.Relay.{IsNew}
-use Rattle.amqp_endpoint_model.specs.Said.{attaching}
-use Rattle.amqp_endpoint_model.specs.declared.call.Call.TheVariants as call
 use Rattle.amqp_endpoint_model.specs.declared.event.Event.{Event}
 use Rattle.amqp_endpoint_model.specs.declared.settings.Settings.{Settings}
 use Rattle.amqp_endpoint_tables.specs.OwnLinks.{slot_at}
-use Rattle.amqp_endpoint_tables.specs.LinkState.{open_of, place_at as link_place, place_of}
+use Rattle.amqp_endpoint_tables.specs.LinkState.{held_at, open_of, place_at as link_place, place_of}
 use Rattle.amqp_endpoint_tables.specs.LinkSteps.{Enters}
 use Rattle.amqp_endpoint_tables.specs.declared.link_place.LinkPlace.TheVariants.{Held}
 use Rattle.amqp_endpoint_tables.specs.declared.link_place.Named.{Named}
@@ -34,15 +31,16 @@ use Rattle.amqp_endpoint_tables.specs.State.{live_at, live_of, place_at, with_li
 use Rattle.amqp_endpoint_tables.specs.Steps.{ChangesLive}
 use Rattle.amqp_endpoint_tables.specs.declared.place.Place.TheVariants.{Asked, Live, Ending, Over}
 use Rattle.amqp_endpoint_tables.proofs.Owning.{at}
-use Rattle.amqp_endpoint_model.specs.declared.link.LinkSettings.{LinkSettings}
 use Rattle.amqp_endpoint_conversation.specs.Windows.{Passing, went}
 use Rattle.amqp_endpoint_laws.specs.Passed.{PassesIn, sent_in}
+use Rattle.amqp_endpoint_laws.specs.Resumed.{NeverResumed}
 use Rattle.amqp_endpoint_laws.specs.Queued.{AttachesFirst, SayMessages, messages_by, pieces_on, pieces_waiting, queued}
 use Rattle.amqp_endpoint_laws.proofs.AttachedBehind.{AttachesInside, allocates, attaches-inside, roomed}
 use Rattle.amqp_endpoint_laws.proofs.GivenUp.{AllAborted, aborted-first, aborted-later}
 use Rattle.amqp_endpoint_laws.proofs.LinksKept.{BackGoesOn, FinishedGoesOn, LeftGoesOn}
 use Rattle.amqp_endpoint_laws.proofs.LinksStay.{held-since}
 use Rattle.amqp_endpoint_laws.proofs.PassedKept.{some-passes}
+use Rattle.amqp_endpoint_laws.proofs.Placing.{IsPlaced, held-place, own-handle, own-name}
 use Rattle.amqp_endpoint_laws.proofs.PassedPlaces.{by-steps, eq-same}
 use Rattle.amqp_endpoint_laws.proofs.PassedSteps.{goes-did, sent-went, session-come}
 use Rattle.amqp_endpoint_laws.proofs.QueuedKept.{Queued, QueuedAt, SaysAt, aborted-bare, bare-aborted, more-queued}
@@ -51,15 +49,15 @@ use Rattle.amqp_endpoint_laws.proofs.QueuedOrder.{pieces_by, since-new}
 use Rattle.amqp_endpoint_laws.proofs.QueuedSaid.{bare, map-both, says-aborted, says-bare, says-none}
 use Rattle.amqp_endpoint_laws.proofs.QueuedSince.{done-of, held-same, since}
 
-module _ (before after : Linked) (limit : ℕ) (its : LinkSettings) (placed : Placed) (frames : List SessionFrame) where
+module _ (before after : Linked) (limit : ℕ) (it : End) (placed : Placed) (frames : List SessionFrame) where
   -- no link had its handle
-  handle-free : (input : Option InputHandle) → AttachedBy input before [] limit (sender_by its) placed after frames
+  handle-free : (input : Option InputHandle) → AttachedBy input before [] limit it placed after frames
       → link_at before.session placed.handle.0 ≡ None
   handle-free None (a, told) = (a.allocates).1
   handle-free (Some input) a =
-      sym (ap (λ (s : LinksIn). link_at s placed.handle.0) (roomed before after limit (sender_by its) placed frames
+      sym (ap (λ (s : LinksIn). link_at s placed.handle.0) (roomed before after limit it placed frames
       input a))
-      ∙ (allocates before after limit (sender_by its) placed frames input a).2
+      ∙ (allocates before after limit it placed frames input a).2
 
 -- a session that goes on
 goes-queued : (h : ℕ) (w : List Piece) (it : Stood) (before after : Session) → live_of (Some it) ≡ Some before
@@ -119,38 +117,36 @@ module _ (old new : LinkedSessions) (limit number : ℕ) (it : End) (link : ℕ)
 module _ (handles_apart : HandlesApart) (back_on : BackGoesOn) (left_on : LeftGoesOn) (finished_on : FinishedGoesOn)
   where
     module _ (sessions old new end : LinkedSessions) (settings : Settings) (before since_then : List Deed)
-        (number link limit : ℕ) (its : LinkSettings) (events : List Event) (frames : List SessionFrame)
+        (number link limit : ℕ) (it : End) (events : List Event) (frames : List SessionFrame) (deed : Deed)
         (passings : List Passing) (handle : OutputHandle) (fresh : IsNew linked settings sessions)
         (done : AreDone linked sessions before old)
-        (d : IsDeed linked old (Does limit (call.AttachSender number its) (attaching link events) frames) new)
+        (a : IsPlaced old.talk old.links limit number it link events frames new.talk new.links)
+        (d : IsDeed linked old deed new)
         (passes : PassesIn number new since_then end passings)
-        (held : link_place end.links link ≡ Some (Held number handle))
+        (held : link_place end.links link ≡ Some (Held number handle)) (never : NeverResumed link since_then)
       where
-        abbrev a : LinkAttached old.talk old.links limit number (sender_by its) link events frames new.talk new.links
-        a = d.0
-
-        entered : slot_at new.links link
-            ≡ Some (Some (record { name = name_of (sender_by its); place = Held number a.placed.handle }))
-        entered = (link-entered old new limit number (sender_by its) link events frames a).1
+        entered : link_place new.links link ≡ Some (Held number a.placed.handle)
+        entered =
+            held-place (link_place new.links link) number a.placed.handle (ap (held_at new.links) a.numbered ∙ a.held)
 
         pub is-entered : slot_at new.links link ≢ None
-        is-entered is = none-some _ (sym is ∙ entered)
+        is-entered is =
+            none-some _ (sym (ap (λ (o : Option (Option (Named End))). place_of (open_of o)) is) ∙ entered)
 
         pub same-handle : a.placed.handle ≡ handle
         same-handle =
-            (held-same number number a.placed.handle handle (link_place new.links link)
-            (ap (λ (o : Option (Option (Named End))). place_of (open_of o)) entered)
-            (held-since link number handle back_on left_on finished_on since_then new end
+            (held-same number number a.placed.handle handle (link_place new.links link) entered
+            (held-since link number handle back_on left_on finished_on since_then new end never
             (done-of number since_then new end passings passes) is-entered held)).1
 
         attach-inside :
-            AttachesInside a.attaches.attaches.before.value a.attaches.attaches.after.value limit (sender_by its)
+            AttachesInside a.attaches.attaches.before.value a.attaches.attaches.after.value limit it
             a.placed a.attaches.frames
         attach-inside =
-            attaches-inside old.talk new.talk limit number (sender_by its) a.placed a.attaches.frames
+            attaches-inside old.talk new.talk limit number it a.placed a.attaches.frames
             a.attaches.attaches
 
-        pub attaches-first : AttachesFirst handle its.name frames
+        pub attaches-first : AttachesFirst handle (name_of it) frames
         attaches-first =
             record {
               channel = a.attaches.attaches.before.value.session.fields.channel.0;
@@ -159,8 +155,10 @@ module _ (handles_apart : HandlesApart) (back_on : BackGoesOn) (left_on : LeftGo
               are = a.attaches.queued ∙ attach-inside.are;
               handled =
                   ap (λ (x : Attach). x.handle.0) attach-inside.announces.is
+                  ∙ own-handle it a.placed.handle
                   ∙ ap (λ (h : OutputHandle). h.0) same-handle;
-              named = ap (λ (x : Attach). x.name) attach-inside.announces.is;
+              named =
+                  ap (λ (x : Attach). x.name) attach-inside.announces.is ∙ own-name it a.placed.handle;
             }
 
         -- what goes of its handle behind its Attach, and what waits, was accepted: it gives deliveries up
@@ -186,7 +184,7 @@ module _ (handles_apart : HandlesApart) (back_on : BackGoesOn) (left_on : LeftGo
             come.history in
             let free : link_at i.before.value.session handle.0 ≡ None =
             subst (λ (k : OutputHandle). link_at i.before.value.session k.0 ≡ None) same-handle
-            (handle-free i.before.value i.after.value limit its a.placed a.attaches.frames i.attached.input
+            (handle-free i.before.value i.after.value limit it a.placed a.attaches.frames i.attached.input
             i.attached.attached) in
             more-queued handle.0 attach-inside.accepted [] i.before.value.session i.after.value.session []
             (went attach-inside.later)
@@ -232,7 +230,7 @@ module _ (handles_apart : HandlesApart) (back_on : BackGoesOn) (left_on : LeftGo
 
         pub reached-new : Reached new
         reached-new =
-            reached-on old new (Does limit (call.AttachSender number its) (attaching link events) frames) d
+            reached-on old new deed d
             (record { sessions = sessions; settings = settings; deeds = before; fresh = fresh; done = done })
 
         pub says-all : (session : Session) → live_at end.talk.sessions number ≡ Some session
@@ -240,7 +238,7 @@ module _ (handles_apart : HandlesApart) (back_on : BackGoesOn) (left_on : LeftGo
         says-all session live =
             let all =
             since Reached reached-on (reached-apart handles_apart) back_on left_on finished_on link number handle
-            since_then new end passings reached-new passes is-entered held [] [] says-first in
+            since_then new end passings never reached-new passes is-entered held [] [] says-first in
             let q =
             queued-here handle.0 all.accepted (place_at end.talk.sessions number) passings session live all.queued in
             says-bare (queued handle passings session.value.session) all.accepted (messages_by link since_then)

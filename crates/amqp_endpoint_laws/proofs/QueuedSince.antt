@@ -35,6 +35,7 @@ use Rattle.amqp_endpoint_tables.proofs.Owning.{at, same_number}
 use Rattle.amqp_endpoint_conversation.specs.Inside.{Batches}
 use Rattle.amqp_endpoint_conversation.specs.Windows.{Passing, went}
 use Rattle.amqp_endpoint_laws.specs.Passed.{PassesIn, holder, is_it, passes_in}
+use Rattle.amqp_endpoint_laws.specs.Resumed.{NeverResumed}
 use Rattle.amqp_endpoint_laws.specs.Queued.{Message, SayMessages, message_in, messages_by}
 use Rattle.amqp_endpoint_laws.proofs.LinksKept.{BackGoesOn, FinishedGoesOn, LeftGoesOn}
 use Rattle.amqp_endpoint_laws.proofs.LinksStay.{entered-before, held-since}
@@ -288,23 +289,23 @@ module _ (Agree : LinkedSessions → Type 0)
   one-deed (Does limit (call.Send other message) answer frames) old new agrees held d ms qs s = absurd d.0
   one-deed deed old new agrees held d ms qs s = quiet-deed deed old new (λ sends. sends) d ms qs s
 
-  pub since : (deeds : List Deed) (old new : LinkedSessions) (later : List Passing) → Agree old
-      → PassesIn number old deeds new later → slot_at old.links link ≢ None
+  pub since : (deeds : List Deed) (old new : LinkedSessions) (later : List Passing) → NeverResumed link deeds
+      → Agree old → PassesIn number old deeds new later → slot_at old.links link ≢ None
       → link_place new.links link ≡ Some (Held number handle) → (ms : List Message) (qs : List Passing)
       → Says ms (At old) qs → Says (ms ++ messages_by link deeds) (At new) (qs ++ later)
-  since [] old new later agrees (same, none) entered held ms qs s =
+  since [] old new later never agrees (same, none) entered held ms qs s =
       subst (λ (rs : List Passing). Says (ms ++ []) (At new) rs)
       (sym (ap (λ (ps : List Passing). qs ++ ps) none ∙ append-nil qs))
       (subst (λ (x : List Message). Says x (At new) qs) (sym (append-nil ms))
       (subst (λ (x : LinkedSessions). Says ms (At x) qs) (sym same) s))
-  since (deed ∷ deeds) old new later agrees (mid, rest, one, others, is) entered held ms qs s =
+  since (deed ∷ deeds) old new later never agrees (mid, rest, one, others, is) entered held ms qs s =
       let entered-mid : slot_at mid.links link ≢ None =
       entered-before link number handle back_on left_on finished_on deed old mid one entered in
       let held-old : link_place old.links link ≡ Some (Held number handle) =
-      held-since link number handle back_on left_on finished_on (deed ∷ deeds) old new
+      held-since link number handle back_on left_on finished_on (deed ∷ deeds) old new never
       (mid, one, done-of number deeds mid new rest others) entered held in
       let all =
-      since deeds mid new rest (agree-kept old mid deed one agrees) others entered-mid held (ms ++ message_in link deed)
+      since deeds mid new rest never.1 (agree-kept old mid deed one agrees) others entered-mid held (ms ++ message_in link deed)
       (qs ++ passes_in number old deed) (one-deed deed old mid agrees held-old one ms qs s) in
       subst (λ (rs : List Passing). Says (ms ++ (message_in link deed ++ messages_by link deeds)) (At new) (qs ++ rs))
       (sym is)

@@ -26,7 +26,7 @@ use Rattle.amqp_endpoint_model.specs.declared.call.Call.TheVariants.{Begin, Acce
 use Rattle.amqp_endpoint_model.specs.declared.call.Call.TheVariants.{AttachSender, AttachReceiver, Detach, CloseLink}
 use Rattle.amqp_endpoint_model.specs.declared.call.Call.TheVariants.{Grant, Drain, Credit, HeldBack}
 use Rattle.amqp_endpoint_model.specs.declared.call.Call.TheVariants.{Waiting as WaitingCall}
-use Rattle.amqp_endpoint_model.specs.declared.call.Call.TheVariants.{Send, Dispose, DisposeAll}
+use Rattle.amqp_endpoint_model.specs.declared.call.Call.TheVariants.{Resume, Send, Dispose, DisposeAll}
 use Rattle.amqp_endpoint_model.specs.declared.error.EndpointError.{EndpointError}
 use Rattle.amqp_endpoint_model.specs.declared.error.EndpointError.TheVariants.{AlreadyConnected, Connection, Memory}
 use Rattle.amqp_endpoint_model.specs.declared.error.EndpointError.TheVariants.{IllegalState, NotConnected}
@@ -1387,6 +1387,7 @@ module _ {S : Type 0} (does : Relations S) (settings : Settings) where
     step (TryEnd n) (tried_end o) new kept s i = does-it _ _ new kept s i
     step (AttachSender n asked) (attaching link told) new kept s i = does-it _ _ new kept s i
     step (AttachReceiver n asked) (attaching link told) new kept s i = does-it _ _ new kept s i
+    step (Resume link n) (attaching number told) new kept s i = does-it _ _ new kept s i
     step (Detach link) done new kept s i = does-it _ _ new kept s i
     step (CloseLink link) (link_closed told) new kept s i = does-it _ _ new kept s i
     step (Grant link n) (credit_is left) new kept s i = does-it _ _ new kept s i

@@ -34,7 +34,7 @@ use Rattle.amqp_endpoint_link_calls.specs.Places.{Where}
 use Rattle.amqp_endpoint_link_calls.specs.Disposing.{DisposedAt, disposes_of_all, disposes_of_one}
 use Rattle.amqp_endpoint_link_calls.specs.Sending.{sends}
 use Rattle.amqp_endpoint_model.specs.declared.call.Disposal.{Disposal}
-use Rattle.amqp_endpoint.specs.Attaching.{LinkAttached}
+use Rattle.amqp_endpoint_laws.proofs.Placing.{IsPlaced, is-again, is-new}
 use Rattle.amqp_endpoint.specs.Calling.{Calls}
 use Rattle.amqp_endpoint.specs.Does.{linked}
 use Rattle.amqp_endpoint.specs.Sending.{tag_of}
@@ -80,7 +80,7 @@ closed-at (Some (Held session handle)) number events old new links links_new fra
 
 attached : (old new : Talk) (links links_new : Links) (limit session : ℕ) (link : End) (number : ℕ)
     (events : List Event) (frames : List SessionFrame)
-    → LinkAttached old links limit session link number events frames new links_new → TalkGoes old new
+    → IsPlaced old links limit session link number events frames new links_new → TalkGoes old new
 attached old new links links_new limit session link number events frames a =
     let i = a.attaches.attaches in changed session i.before i.after old new i.stepped
 
@@ -109,9 +109,17 @@ called phase (call.IsEnded n) (truth b) old new limit frames may c =
 called phase (call.TryEnd n) (tried_end o) old new limit frames may c =
     plainly (end-told old.talk.sessions n _ new.talk.sessions c.tells)
 called phase (call.AttachSender n settings) (attaching link events) old new limit frames may c =
-    plainly (attached old.talk new.talk old.links new.links limit n _ link events frames c)
+    plainly
+    (attached old.talk new.talk old.links new.links limit n _ link events frames
+    (is-new old.talk new.talk old.links new.links limit n _ link events frames c))
 called phase (call.AttachReceiver n settings) (attaching link events) old new limit frames may c =
-    plainly (attached old.talk new.talk old.links new.links limit n _ link events frames c)
+    plainly
+    (attached old.talk new.talk old.links new.links limit n _ link events frames
+    (is-new old.talk new.talk old.links new.links limit n _ link events frames c))
+called phase (call.Resume link n) (attaching number events) old new limit frames may c =
+    plainly
+    (attached old.talk new.talk old.links new.links limit n _ link events frames
+    (is-again old.talk new.talk old.links new.links limit n link number events frames c))
 called phase (call.Detach link) done old new limit frames may c =
     plainly (done-at (detaches false) (place_at old.links link) old.talk new.talk frames c.is_done)
 called phase (call.CloseLink link) (link_closed events) old new limit frames may c =

@@ -34,6 +34,7 @@ use Rattle.amqp_endpoint_laws.specs.Agreeing.{Agree}
 use Rattle.amqp_endpoint_laws.specs.Attachments.{attachment, is_named, uses}
 use Rattle.amqp_endpoint_laws.specs.Handed.{Handed, IsReceiving, NoneResumes, PassesOn, handed_as, handed_by, pieces_come}
 use Rattle.amqp_endpoint_laws.specs.Handed.{leads_there, pieces_on}
+use Rattle.amqp_endpoint_laws.specs.Resumed.{IsResumed, NeverResumed}
 use Rattle.amqp_endpoint_laws.specs.Passed.{PassesIn, called_in, came_in, is_it, passes_in, session_taking}
 use Rattle.amqp_endpoint_laws.specs.Taken.{HandsOut, IsOther, NoneAttaches}
 use Rattle.amqp_endpoint_laws.proofs.AskedCame.{links-came}
@@ -49,7 +50,7 @@ use Rattle.amqp_endpoint_laws.proofs.HoldingTalk.{held_in}
 use Rattle.amqp_endpoint_laws.proofs.LeadingAlone.{leads-on, reach-alone}
 use Rattle.amqp_endpoint_laws.proofs.LifeDeeds.{IsOn, holds-receives, none-handed-so, on-or-not, stays-gone, was-on}
 use Rattle.amqp_endpoint_laws.proofs.LifePlace.{IsIn, IsUnentered, came-so, known-first, stays-in, unentered-none}
-use Rattle.amqp_endpoint_laws.proofs.LinksKept.{BackGoesOn, FinishedGoesOn, HoldsNone, LeftGoesOn, links-keep}
+use Rattle.amqp_endpoint_laws.proofs.LinksKept.{BackGoesOn, FinishedGoesOn, HoldsOnly, LeftGoesOn, links-keep}
 use Rattle.amqp_endpoint_laws.proofs.PassedPlaces.{eq-same, none-came}
 use Rattle.amqp_endpoint_laws.proofs.QueuedAttached.{Reached, link-entered, reached-on}
 use Rattle.amqp_endpoint_laws.proofs.QueuedSince.{done-of}
@@ -84,7 +85,7 @@ module _ (link : ℕ) (name : List ℕ) where
   name-on (ClosesLink number place) old new (stood, was, held, is) k =
       (not-none _ new is, λ n e. absurd (none-some n (sym (ap (λ (o : Slot). name_of (open_of o)) is) ∙ e)))
 
-  stays-named : (step : Act End) (old new : Links) → HoldsNone step → Step old step new
+  stays-named : (step : Act End) (old new : Links) → HoldsOnly (λ n. Unit {0}) step → Step old step new
       → KeepsName (slot_at old link) → KeepsName (slot_at new link)
   stays-named step old new none s k = by (is_about link step) refl
     where
@@ -96,31 +97,37 @@ module _ (link : ℕ) (name : List ℕ) where
       → IsDeed linked old deed new → KeepsName (slot_at old.links link) → KeepsName (slot_at new.links link)
   named-behind back_on left_on finished_on deed old new d k =
       deed-keeps linked (λ s. KeepsName (slot_at s.links link))
-      (links-keep (λ ls. KeepsName (slot_at ls link)) stays-named back_on left_on finished_on) deed old new d k
+      (links-keep (λ ls. KeepsName (slot_at ls link)) (λ n. Unit {0}) stays-named back_on left_on finished_on
+      (λ n. tt))
+      deed old new d k
 
 -- a deed by which a frame is taken
 abbrev IsTaking : Deed → Type 0
 IsTaking (Takes limit f frames events) = Unit {0}
 IsTaking deed = ⊥
 
--- by any other no link attaches that has its number
-apart-from : (link : ℕ) (deed : Deed) (old new : LinkedSessions) → IsDeed linked old deed new → (IsTaking deed → ⊥)
-    → slot_at old.links link ≢ None → IsApart link deed
-apart-from link (Takes limit f frames events) old new d other entered = absurd (other tt)
-apart-from link (Does limit (call.AttachSender number its) (attaching one events) frames) old new d other entered =
-    λ same.
+-- by any other no link attaches that has its number, where that doesn't attach again
+apart-from : (link : ℕ) (deed : Deed) (old new : LinkedSessions) → (IsResumed link deed → ⊥)
+    → IsDeed linked old deed new → (IsTaking deed → ⊥) → slot_at old.links link ≢ None → IsApart link deed
+apart-from link (Takes limit f frames events) old new never d other entered = absurd (other tt)
+apart-from link (Does limit (call.AttachSender number its) (attaching one events) frames) old new never d other
+    entered = λ same.
     entered
     (ap (λ (k : ℕ). slot_at old.links k) same
     ∙ (link-entered old new limit number (sender_by its) one events frames d.0).0)
-apart-from link (Does limit (call.AttachReceiver number its) (attaching one events) frames) old new d other entered =
-    λ same.
+apart-from link (Does limit (call.AttachReceiver number its) (attaching one events) frames) old new never d other
+    entered = λ same.
     entered
     (ap (λ (k : ℕ). slot_at old.links k) same
     ∙ (link-entered old new limit number (receiver_by its) one events frames d.0).0)
-apart-from link (Does limit (call.AttachSender number its) answer frames) old new d other entered = absurd d.0
-apart-from link (Does limit (call.AttachReceiver number its) answer frames) old new d other entered = absurd d.0
-apart-from link (Does limit it answer frames) old new d other entered = tt
-apart-from link deed old new d other entered = tt
+apart-from link (Does limit (call.Resume one number) (attaching it events) frames) old new never d other entered =
+    λ same. never (sym same)
+apart-from link (Does limit (call.AttachSender number its) answer frames) old new never d other entered = absurd d.0
+apart-from link (Does limit (call.AttachReceiver number its) answer frames) old new never d other entered =
+    absurd d.0
+apart-from link (Does limit (call.Resume one number) answer frames) old new never d other entered = absurd d.0
+apart-from link (Does limit it answer frames) old new never d other entered = tt
+apart-from link deed old new never d other entered = tt
 
 it-is : (o : Option ℕ) (number : ℕ) → is_it o number ≡ true → o ≡ Some number
 it-is None number is = absurd (true≢false (sym is))
@@ -167,28 +174,29 @@ module _ (back_on : BackGoesOn) (left_on : LeftGoesOn) (finished_on : FinishedGo
   on-receives : (s : LinkedSessions) (on : IsOn link s number own.0) → IsReceiving s link number own on.held
   on-receives s on = is-receiving s link number own on.held (holds-receives s link number own on.held on.on)
 
-  here-on : (deed : Deed) (old new : LinkedSessions) → IsDeed linked old deed new → IsHere old → IsHere new
-  here-on deed old new d i = stays-in link deed old new d back_on left_on finished_on number own.0 i
+  here-on : (deed : Deed) (old new : LinkedSessions) → (IsResumed link deed → ⊥) → IsDeed linked old deed new
+      → IsHere old → IsHere new
+  here-on deed old new never d i = stays-in link deed old new d back_on left_on finished_on never number own.0 i
 
   -- once its attachment ended it is never attached again
-  gone-stays : (deeds : List Deed) (old new : LinkedSessions) → IsHere old
+  gone-stays : (deeds : List Deed) (old new : LinkedSessions) → NeverResumed link deeds → IsHere old
       → ((x : Part) → held_in (live_at old.talk.sessions number) own.0 ≡ Some (link, x) → ⊥)
       → AreDone linked old deeds new → (held : Option Delivery) → IsReceiving new link number own held → ⊥
-  gone-stays [] old new i gone same held r =
+  gone-stays [] old new never i gone same held r =
       gone (true, held)
       (subst
       (λ (s : LinkedSessions). held_in (live_at s.talk.sessions number) own.0 ≡ Some (link, (true, held))) same
       (receives-on new held r))
-  gone-stays (deed ∷ deeds) old new i gone (mid, d, rest) held r =
+  gone-stays (deed ∷ deeds) old new never i gone (mid, d, rest) held r =
       let off : IsOn link mid number own.0 → ⊥ =
       λ on.
-      elim (came-so link deed old mid d number own.0 (true, on.held) on.on) [
+      elim (came-so link deed old mid d never.0 number own.0 (true, on.held) on.on) [
         | inl there ↦ gone (true, on.held) there
         | inr (inl s) ↦ gone s.part s.there
         | inr (inr e) ↦ i.entered e.none
       ] in
-      gone-stays deeds mid new (here-on deed old mid d i)
-      (stays-gone link number own back_on left_on finished_on deed old mid number own.0 d i
+      gone-stays deeds mid new never.1 (here-on deed old mid never.0 d i)
+      (stays-gone link number own back_on left_on finished_on deed old mid number own.0 never.0 d i
       (λ x there. absurd (gone x there)) off)
       rest held r
 
@@ -226,10 +234,10 @@ module _ (back_on : BackGoesOn) (left_on : LeftGoesOn) (finished_on : FinishedGo
     deed-none deed old new d held later q p leads = tt
 
     on-since : (deeds : List Deed) (s end : LinkedSessions) (ps : List Passing) (held later : Option Delivery)
-        → Reached s → IsHere s → IsReceiving s link number own held
+        → NeverResumed link deeds → Reached s → IsHere s → IsReceiving s link number own held
         → leads_there (live_at s.talk.sessions number) theirs own ≡ true → PassesIn number s deeds end ps
         → IsReceiving end link number own later → StaysOn theirs s deeds end ps
-    on-since [] s end ps held later r i q leads (same, none) e =
+    on-since [] s end ps held later never r i q leads (same, none) e =
         record {
           passes = (same, none);
           alone = subst (λ (xs : List Passing). NoneAttaches theirs (came_in xs)) (sym none) tt;
@@ -238,12 +246,13 @@ module _ (back_on : BackGoesOn) (left_on : LeftGoesOn) (finished_on : FinishedGo
               (λ (x : LinkedSessions). leads_there (live_at x.talk.sessions number) theirs own ≡ true) (sym same)
               leads;
         }
-    on-since (deed ∷ deeds) s end ps held later r i q leads (mid, rest, d, more, is) e =
+    on-since (deed ∷ deeds) s end ps held later never r i q leads (mid, rest, d, more, is) e =
         elim (on-or-not link mid number own.0) [
           | inl on ↦
               let next = on-receives mid on in
               let stays =
-              on-since deeds mid end rest on.held later (reached-on s mid deed d r) (here-on deed s mid d i) next
+              on-since deeds mid end rest on.held later never.1 (reached-on s mid deed d r)
+              (here-on deed s mid never.0 d i) next
               (leads-on deed s mid d link number own held on.held theirs q next leads) more e in
               record {
                 passes = (mid, on.held, rest, leads, d, next, stays.passes, is);
@@ -256,8 +265,8 @@ module _ (back_on : BackGoesOn) (left_on : LeftGoesOn) (finished_on : FinishedGo
               }
           | inr off ↦
               absurd
-              (gone-stays deeds mid end (here-on deed s mid d i)
-              (stays-gone link number own back_on left_on finished_on deed s mid number own.0 d i
+              (gone-stays deeds mid end never.1 (here-on deed s mid never.0 d i)
+              (stays-gone link number own back_on left_on finished_on deed s mid number own.0 never.0 d i
               (λ x there.
               ap (λ (p : ℕ × Part). p.1.0)
               (same_Some (link, x) (link, (true, held)) (sym there ∙ receives-on s held q)))
@@ -325,19 +334,21 @@ module _ (back_on : BackGoesOn) (left_on : LeftGoesOn) (finished_on : FinishedGo
 
     -- it is attached by this deed
     comes-now : (deed : Deed) (deeds : List Deed) (s mid end : LinkedSessions) (ps rest : List Passing)
-        (later : Option Delivery) → IsDeed linked s deed mid → Reached s → IsHere s
+        (later : Option Delivery) → NeverResumed link (deed ∷ deeds) → IsDeed linked s deed mid → Reached s → IsHere s
         → KeepsName link name (slot_at s.links link) → (IsOn link s number own.0 → ⊥)
         → IsReceiving mid link number own None → PassesIn number mid deeds end rest
         → ps ≡ passes_in number s deed ++ rest → IsReceiving end link number own later
         → ComesOn name (deed ∷ deeds) end ps
-    comes-now (Takes limit f frames events) deeds s mid end ps rest later d r i k off q more is e =
+    comes-now (Takes limit f frames events) deeds s mid end ps rest later never d r i k off q more is e =
         let deed : Deed = Takes limit f frames events in
         let c =
         takes-attach limit f frames events s mid d i.agrees link number own None q
         (λ was there. off (record { held = was; on = receives-on s was there })) in
         let theirs : ℕ = c.attach.handle.0 in
         let after = reached-on s mid deed d r in
-        let stays = on-since theirs deeds mid end rest None later after (here-on deed s mid d i) q c.leads more e in
+        let stays =
+        on-since theirs deeds mid end rest None later never.1 after (here-on deed s mid never.0 d i) q c.leads more e
+        in
         record {
           first = [];
           attach = c.attach;
@@ -353,17 +364,17 @@ module _ (back_on : BackGoesOn) (left_on : LeftGoesOn) (finished_on : FinishedGo
           says = λ fresh.
               none-handed deed deeds s mid d i off ∙ on-says theirs deeds mid end rest after q stays fresh;
         }
-    comes-now deed deeds s mid end ps rest later d r i k off q more is e =
+    comes-now deed deeds s mid end ps rest later never d r i k off q more is e =
         let was =
         other-calls link number own None s mid deed d i.agrees
-        (apart-from link deed s mid d (λ taking. taking) i.entered) q in
+        (apart-from link deed s mid never.0 d (λ taking. taking) i.entered) q in
         absurd (off (record { held = None; on = receives-on s None was }))
 
     -- where a link comes to be attached, it holds nothing
-    newly : (deed : Deed) (s mid : LinkedSessions) → IsDeed linked s deed mid → IsHere s
+    newly : (deed : Deed) (s mid : LinkedSessions) → (IsResumed link deed → ⊥) → IsDeed linked s deed mid → IsHere s
         → (IsOn link s number own.0 → ⊥) → (on : IsOn link mid number own.0) → on.held ≡ None
-    newly deed s mid d i off on =
-        elim (came-so link deed s mid d number own.0 (true, on.held) on.on) [
+    newly deed s mid never d i off on =
+        elim (came-so link deed s mid d never number own.0 (true, on.held) on.on) [
           | inl there ↦ absurd (off (record { held = on.held; on = there }))
           | inr (inl st) ↦ by st.part st.there st.kept
           | inr (inr en) ↦ en.empty
@@ -374,26 +385,26 @@ module _ (back_on : BackGoesOn) (left_on : LeftGoesOn) (finished_on : FinishedGo
         by (true, v) there kept = absurd (off (record { held = v; on = there }))
         by (false, v) there kept = kept refl ∙ i.empty number own.0 v there
 
-    comes-on : (deeds : List Deed) (s end : LinkedSessions) (ps : List Passing) (later : Option Delivery) → Reached s
-        → IsHere s → KeepsName link name (slot_at s.links link) → (IsOn link s number own.0 → ⊥)
+    comes-on : (deeds : List Deed) (s end : LinkedSessions) (ps : List Passing) (later : Option Delivery)
+        → NeverResumed link deeds → Reached s → IsHere s → KeepsName link name (slot_at s.links link) → (IsOn link s number own.0 → ⊥)
         → PassesIn number s deeds end ps → IsReceiving end link number own later → ComesOn name deeds end ps
-    comes-on [] s end ps later r i k off (same, none) e =
+    comes-on [] s end ps later never r i k off (same, none) e =
         absurd
         (off (record {
           held = later;
           on = receives-on s later
               (subst (λ (x : LinkedSessions). IsReceiving x link number own later) same e);
         }))
-    comes-on (deed ∷ deeds) s end ps later r i k off (mid, rest, d, more, is) e =
+    comes-on (deed ∷ deeds) s end ps later never r i k off (mid, rest, d, more, is) e =
         elim (on-or-not link mid number own.0) [
           | inl on ↦
-              comes-now deed deeds s mid end ps rest later d r i k off
+              comes-now deed deeds s mid end ps rest later never d r i k off
               (subst (λ (held : Option Delivery). IsReceiving mid link number own held)
-              (newly deed s mid d i off on) (on-receives mid on))
+              (newly deed s mid never.0 d i off on) (on-receives mid on))
               more is e
           | inr still ↦
               comes-later deed deeds s mid end ps rest d i off is
-              (comes-on deeds mid end rest later (reached-on s mid deed d r) (here-on deed s mid d i)
+              (comes-on deeds mid end rest later never.1 (reached-on s mid deed d r) (here-on deed s mid never.0 d i)
               (named-behind link name back_on left_on finished_on deed s mid d k) still more e)
         ]
 
@@ -404,6 +415,7 @@ module _ (back_on : BackGoesOn) (left_on : LeftGoesOn) (finished_on : FinishedGo
     (fresh : IsNew linked settings sessions) (passed : PassesIn number sessions before old first)
     (d : IsDeed linked old (Does limit (call.AttachReceiver number its) (attaching link events) frames) new)
     (passes : PassesIn number new since end passings) (receives : IsReceiving end link number own held)
+    (never : NeverResumed link since)
   where
     abbrev deed : Deed
     deed = Does limit (call.AttachReceiver number its) (attaching link events) frames
@@ -445,7 +457,7 @@ module _ (back_on : BackGoesOn) (left_on : LeftGoesOn) (finished_on : FinishedGo
     here-at : (n h : ℕ) → IsIn link new n h → IsIn link new number own.0
     here-at n h i =
         let (in_it, by_it) =
-        (on-all since new end (done-of number since new end passings passes) i).alone number own.0 (true, held)
+        (on-all since new end never (done-of number since new end passings passes) i).alone number own.0 (true, held)
         (receives-holds end link number own held (receives-so end link number own held receives)) in
         record {
           agrees = i.agrees;
@@ -454,11 +466,12 @@ module _ (back_on : BackGoesOn) (left_on : LeftGoesOn) (finished_on : FinishedGo
           empty = i.empty;
         }
       where
-        on-all : (deeds : List Deed) (s t : LinkedSessions) → AreDone linked s deeds t → IsIn link s n h
+        on-all : (deeds : List Deed) (s t : LinkedSessions) → NeverResumed link deeds → AreDone linked s deeds t
+            → IsIn link s n h
             → IsIn link t n h
-        on-all [] s t same i = subst (λ (x : LinkedSessions). IsIn link x n h) (sym same) i
-        on-all (one ∷ deeds) s t (mid, o, rest) i =
-            on-all deeds mid t rest (stays-in link one s mid o back_on left_on finished_on n h i)
+        on-all [] s t none same i = subst (λ (x : LinkedSessions). IsIn link x n h) (sym same) i
+        on-all (one ∷ deeds) s t none (mid, o, rest) i =
+            on-all deeds mid t none.1 rest (stays-in link one s mid o back_on left_on finished_on none.0 n h i)
 
     here : IsIn link new number own.0
     here =
@@ -472,7 +485,7 @@ module _ (back_on : BackGoesOn) (left_on : LeftGoesOn) (finished_on : FinishedGo
     answers : (on : IsOn link new number own.0)
         → HandsOut end number own its.name (came_in first ++ came_in passings) (handed_by link (told_by since))
     answers on =
-        let empty : on.held ≡ None = elim (came-so link deed old new d number own.0 (true, on.held) on.on) [
+        let empty : on.held ≡ None = elim (came-so link deed old new d (λ is. is) number own.0 (true, on.held) on.on) [
           | inl there ↦ absurd (unheld (true, on.held) there)
           | inr (inl st) ↦ absurd (unheld st.part st.there)
           | inr (inr en) ↦ en.empty
@@ -485,7 +498,7 @@ module _ (back_on : BackGoesOn) (left_on : LeftGoesOn) (finished_on : FinishedGo
         let r = reached-on old new deed d reached-old in
         let stays =
         on-since back_on left_on finished_on link number own a.theirs since
-        new end passings None held r here q a.leads passes receives in
+        new end passings None held never r here q a.leads passes receives in
         let theirs : a.asked.attach.handle.0 ≡ a.theirs = c.handled in
         let later : List FrameBody = c.later ++ came_in passings in
         let said : pieces_come a.theirs later ≡ pieces_come a.theirs (came_in passings) =
@@ -516,7 +529,7 @@ module _ (back_on : BackGoesOn) (left_on : LeftGoesOn) (finished_on : FinishedGo
     waits off =
         let c =
         comes-on back_on left_on finished_on link number own its.name since
-        new end passings held (reached-on old new deed d reached-old) here named off passes receives in
+        new end passings held never (reached-on old new deed d reached-old) here named off passes receives in
         hands-so end number own its.name (handed_by link (told_by since)) (came_in first ++ c.first) c.attach c.later
         (came_in first ++ came_in passings)
         (ap (λ (xs : List FrameBody). came_in first ++ xs) c.are

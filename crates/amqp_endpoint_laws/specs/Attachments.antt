@@ -1,5 +1,6 @@
 -- Attachments of links, read off the frames of their session (part 2, 2.6.2, 2.6.3).
 use Rattle.std.specs.Prelude.{ℕ, suc, zero, Bool, true, false, List, [], ◌∷◌, ◌++◌, ◌==◌, ◌&&◌, if◌then◌else◌, map}
+use Rattle.std.specs.Prelude.{Option, Some, None}
 use Rattle.std.specs.Str.{bytes_eq}
 use Rattle.amqp_session_types.specs.declared.modes.Role.{Role}
 use Rattle.amqp_session_types.specs.declared.modes.Role.TheVariants as role
@@ -9,11 +10,16 @@ use Rattle.amqp_session_performatives.specs.declared.session_frame.SessionFrameB
 use Rattle.amqp_session_performatives.specs.declared.session_frame.SessionFrameBody.TheVariants as session
 use Rattle.amqp_session_frames.specs.declared.frame.FrameBody.{FrameBody}
 use Rattle.amqp_session_frames.specs.declared.frame.FrameBody.TheVariants as body
+use Rattle.amqp_link.specs.declared.end.End.{End}
 use Rattle.amqp_link_base.specs.Readings.{Piece}
 use Rattle.amqp_endpoint_laws.specs.Deeds.{Deed, Does, Takes}
 use Rattle.amqp_endpoint_model.specs.State.{body_of}
 use Rattle.amqp_endpoint_model.specs.declared.call.Call.{Call}
-use Rattle.amqp_endpoint_model.specs.declared.call.Call.TheVariants.{AttachReceiver, AttachSender}
+use Rattle.amqp_endpoint_model.specs.declared.call.Call.TheVariants.{AttachReceiver, AttachSender, Resume}
+use Rattle.amqp_endpoint_link_calls.specs.Naming.{name_of}
+use Rattle.amqp_endpoint_linking.specs.Linking.{Links}
+use Rattle.amqp_endpoint_tables.specs.LinkState.{rest_at}
+use Rattle.amqp_endpoint.specs.declared.linked.LinkedSessions.{LinkedSessions}
 use Rattle.amqp_endpoint_laws.specs.Handed.{piece_on}
 
 -- the Attach of a frame
@@ -36,16 +42,22 @@ gone_in (Takes limit frame frames events) = frames
 gone_in (Does limit call answer frames) = frames
 gone_in deed = []
 
--- the name of the link that a call has attach
-abbrev pub named_by : Call → List (List ℕ)
-named_by (AttachSender session its) = its.name ∷ []
-named_by (AttachReceiver session its) = its.name ∷ []
-named_by call = []
+-- the name of a link, if there is one
+abbrev pub named_if : Option End → List (List ℕ)
+named_if None = []
+named_if (Some link) = name_of link ∷ []
+
+-- the name of the link that a call has attach, of a new one or of one that is at rest among these
+abbrev pub named_by : Links → Call → List (List ℕ)
+named_by links (AttachSender session its) = its.name ∷ []
+named_by links (AttachReceiver session its) = its.name ∷ []
+named_by links (Resume link session) = named_if (rest_at links link)
+named_by links call = []
 
 -- that of the one that is called to attach in a deed
-abbrev pub attached_in : Deed → List (List ℕ)
-attached_in (Does limit call answer frames) = named_by call
-attached_in deed = []
+abbrev pub attached_in : LinkedSessions → Deed → List (List ℕ)
+attached_in s (Does limit call answer frames) = named_by s.links call
+attached_in s deed = []
 
 -- the Attach of a sending end with this name: a receiving end may have the name of a sending one (part 2, 2.6.1)
 abbrev pub is_sending : Role → Bool

@@ -19,3 +19,5 @@ pub mod Beside
 pub mod Following
 pub mod Channel
 pub mod Between
+pub mod Resumed
+pub mod Opening

@@ -53,6 +53,7 @@ called_in s (call.AcceptBegin channel) (session_begun number) = Some number
 called_in s (call.End number) answer = Some number
 called_in s (call.AttachSender number settings) answer = Some number
 called_in s (call.AttachReceiver number settings) answer = Some number
+called_in s (call.Resume link number) answer = Some number
 called_in s (call.Detach link) answer = holder (place_at s.links link)
 called_in s (call.CloseLink link) answer = holder (place_at s.links link)
 called_in s (call.Grant link credit) answer = holder (place_at s.links link)

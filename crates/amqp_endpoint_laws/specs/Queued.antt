@@ -11,14 +11,12 @@ use Rattle.amqp_link_base.specs.Readings.{Piece, nothing, readings}
 use Rattle.amqp_link_base.specs.Said.{Said}
 use Rattle.amqp_link_sender.specs.Saying.{pieces_of}
 use Rattle.amqp_endpoint_laws.specs.Deeds.{AreDone, Deed, Does, IsDeed}
-use Rattle.amqp_endpoint_model.specs.Said.{Said as Answer, attaching, message_sent}
+use Rattle.amqp_endpoint_model.specs.Said.{Said as Answer, message_sent}
 use Rattle.amqp_endpoint_model.specs.declared.call.Call.{Call}
-use Rattle.amqp_endpoint_model.specs.declared.call.Call.TheVariants.{AttachSender, Send}
-use Rattle.amqp_endpoint_model.specs.declared.event.Event.{Event}
+use Rattle.amqp_endpoint_model.specs.declared.call.Call.TheVariants.{Send}
 use Rattle.amqp_endpoint.specs.Does.{linked}
 use Rattle.amqp_endpoint.specs.declared.linked.LinkedSessions.{LinkedSessions}
 use Rattle.amqp_endpoint_linking.specs.Linking.{Link, Session}
-use Rattle.amqp_endpoint_model.specs.declared.link.LinkSettings.{LinkSettings}
 use Rattle.amqp_endpoint_conversation.specs.Windows.{Passing}
 use Rattle.amqp_endpoint_laws.specs.Passed.{PassesIn, sent_in}
 
@@ -98,20 +96,19 @@ pub record AttachesFirst (handle : OutputHandle) (name : List ℕ) (frames : Lis
   pub handled : attach.handle.0 ≡ handle.0
   pub named : attach.name ≡ name
 
--- among these deeds is the call by which the link attached, and what passed in its session since, by its handle, and
+-- among these deeds is this call by which the link attached, and what passed in its session since, by its handle, and
 -- what waits there, says these messages
-pub record SaysSince (sessions : LinkedSessions) (deeds : List Deed) (number link : ℕ) (its : LinkSettings)
-    (events : List Event) (handle : OutputHandle) (end : LinkedSessions) (session : Session) (messages : List Message)
-    : Type 0 where
+pub record SaysSince (sessions : LinkedSessions) (deeds : List Deed) (number : ℕ) (it : Call) (answer : Answer)
+    (handle : OutputHandle) (end : LinkedSessions) (session : Session) (messages : List Message) : Type 0 where
   pub before : List Deed
   pub limit : ℕ
   pub frames : List SessionFrame
   pub since : List Deed
-  pub are : deeds ≡ before ++ Does limit (AttachSender number its) (attaching link events) frames ∷ since
+  pub are : deeds ≡ before ++ Does limit it answer frames ∷ since
   pub old : LinkedSessions
   pub new : LinkedSessions
   pub came : AreDone linked sessions before old
-  pub attached : IsDeed linked old (Does limit (AttachSender number its) (attaching link events) frames) new
+  pub attached : IsDeed linked old (Does limit it answer frames) new
   pub passings : List Passing
   pub passes : PassesIn number new since end passings
   pub says : SayMessages (queued handle passings session.value.session) messages

@@ -20,10 +20,10 @@ ghost use Rattle.amqp_endpoint_links.specs.declared.links.AskedLink.{AskedLink};
 ghost use Rattle.amqp_endpoint_tables.specs.State.{channel_at, live_at, place_at as session_place};
 ghost use Rattle.amqp_endpoint_model.specs.History.{Run};
 ghost use Rattle.amqp_endpoint_model.specs.Relay.{IsNew};
-ghost use Rattle.amqp_endpoint_model.specs.Said.{Told, attaching};
+ghost use Rattle.amqp_endpoint_model.specs.Said.{Said as Answer, Told, attaching};
 ghost use Rattle.amqp_endpoint_model.specs.State.{State, frame_of, fresh, is_unconnected};
 ghost use Rattle.amqp_endpoint_model.specs.declared.call.Call.{Call};
-ghost use Rattle.amqp_endpoint_model.specs.declared.call.Call.TheVariants.{AttachReceiver, AttachSender};
+ghost use Rattle.amqp_endpoint_model.specs.declared.call.Call.TheVariants.{AttachReceiver};
 ghost use Rattle.amqp_endpoint_model.specs.declared.error.EndpointError.{EndpointError};
 ghost use Rattle.amqp_endpoint_model.specs.declared.event.Event.{Event};
 ghost use Rattle.amqp_endpoint_model.specs.declared.settings.Settings.{Settings};
@@ -50,6 +50,8 @@ ghost use Rattle.amqp_endpoint_laws.specs.Passed.{HasCome, PassesIn, came_in, se
 ghost use Rattle.amqp_endpoint_laws.specs.Queued.{AttachesFirst, Message, SayMessages, SaysSince, messages_by};
 ghost use Rattle.amqp_endpoint_laws.specs.Queued.{messages_done};
 ghost use Rattle.amqp_endpoint_laws.specs.Queued.{pieces_waiting, queued};
+ghost use Rattle.amqp_endpoint_laws.specs.Opening.{Opens, OpensBy, OpensSending, those_behind};
+ghost use Rattle.amqp_endpoint_laws.specs.Resumed.{NeverCalledAgain, NeverResumed};
 ghost use Rattle.amqp_endpoint_laws.specs.Seen.{AreOnes, passing_in, wired_by};
 ghost use Rattle.amqp_endpoint_laws.specs.Life.{Reach, StaysSomewhere};
 ghost use Rattle.amqp_endpoint_laws.specs.Taken.{CameLast, HandsOut, asked_in, message_handed};
@@ -256,23 +258,23 @@ pub fn messages_come_while_attached()
         (handed_by link (told_in deed) ≡ []) ⊎ StaysSomewhere old new link }
 {}
 
-/// All that an endpoint ever hands out by a link is what the transfers say that reach the link while it is attached, in
-/// order, from nothing on, where none of them says that it resumes a delivery. So what the link holds of a message as
-/// its attachment ends is never handed out (part 2, 2.6.12, 2.6.14). There are such transfers: by whichever deeds a link
-/// stays attached, it is so in one session alone, and under one own handle alone. And each run consists of deeds that
-/// tell its events.
+/// All that an endpoint ever hands out by a link that never attaches again is what the transfers say that reach the link
+/// while it is attached, in order, from nothing on, where none of them says that it resumes a delivery. So what the link
+/// holds of a message as its attachment ends is never handed out (part 2, 2.6.12, 2.6.14). There are such transfers: by
+/// whichever deeds such a link stays attached, it is so in one session alone, and under one own handle alone. And each
+/// run consists of deeds that tell its events.
 pub fn all_that_is_handed_out()
     ensures says { (sessions end : LinkedSessions) (settings : Settings) (deeds : List Deed) (link session : ℕ)
         (own : OutputHandle) (pieces : List Piece) → IsNew linked settings sessions →
-        Reach link session own sessions deeds end pieces → NoneResumes pieces →
+        NeverResumed link deeds → Reach link session own sessions deeds end pieces → NoneResumes pieces →
         handed_by link (told_by deeds) ≡ map (handed_as own) (readings nothing pieces).messages }
     ensures some { (sessions end : LinkedSessions) (settings : Settings) (deeds : List Deed) (link : ℕ) →
-        IsNew linked settings sessions → AreDone linked sessions deeds end →
+        IsNew linked settings sessions → NeverResumed link deeds → AreDone linked sessions deeds end →
         (session : ℕ) × (own : OutputHandle) × (pieces : List Piece) ×
         Reach link session own sessions deeds end pieces }
     ensures by_calls { (sessions : LinkedSessions) (settings : Settings) (calls : List Call) (told : List Told)
         (end : State LinkedSessions) (link : ℕ) → IsNew linked settings sessions →
-        Run linked (fresh settings sessions) calls told end →
+        Run linked (fresh settings sessions) calls told end → NeverCalledAgain link (calls_done calls told) →
         (did : IsDone linked settings.max_frame_size sessions (pulled_since [] calls told) (fed_since [] calls told)
         (told_since [] calls told) (done_since [] calls told) (events_told told) (calls_done calls told) end) ×
         (session : ℕ) × (own : OutputHandle) × (pieces : List Piece) ×
@@ -283,40 +285,38 @@ pub fn all_that_is_handed_out()
     links_given_back_go_on();
 }
 
-/// What a sending link is given to send is queued in order. Its Attach is the first frame of the call by which it
-/// attaches, and says its own handle and its name. The transfers with that handle among all that passes in its session
-/// from then on, and behind them those that wait there for the peer's window, say the messages that the link accepted
-/// since, one after the other, each with its tag, its format, whether it goes settled, and all of its bytes; and no
-/// message is left half said (part 2, 2.6.12, 2.6.14). So it is whatever else the endpoint does and hears, as long as
-/// the session holds the link and goes on. In a run these are all messages that the link is given by a call that is
-/// done, where the link attaches by such a call.
+/// What a link is given to send is queued in order. Its Attach is the first frame of the call by which it attaches, as a
+/// new link or again, and says its own handle and its name. The transfers with that handle among all that passes in its
+/// session from then on, and behind them those that wait there for the peer's window, say the messages that the link
+/// accepted since, one after the other, each with its tag, its format, whether it goes settled, and all of its bytes; and
+/// no message is left half said (part 2, 2.6.12, 2.6.14). So it is whatever else the endpoint does and hears, as long as
+/// the session holds the link and goes on, and the link doesn't attach again. In a run these are all messages that the
+/// link is given by calls that are done behind that call.
 pub fn what_is_sent_is_queued_in_order()
     ensures says { (sessions old new end : LinkedSessions) (settings : Settings) (before since : List Deed)
-        (number link limit : ℕ) (its : LinkSettings) (events : List Event) (frames : List SessionFrame)
-        (passings : List Passing) (handle : OutputHandle) (session : Session) → IsNew linked settings sessions →
-        AreDone linked sessions before old →
-        IsDeed linked old (Does limit (AttachSender number its) (attaching link events) frames) new →
-        PassesIn number new since end passings → place_at end.links link ≡ Some (Held number handle) →
+        (deed : Deed) (number link : ℕ) (passings : List Passing) (handle : OutputHandle) (session : Session) →
+        IsNew linked settings sessions → AreDone linked sessions before old → IsDeed linked old deed new →
+        Opens deed number link → PassesIn number new since end passings →
+        place_at end.links link ≡ Some (Held number handle) → NeverResumed link since →
         live_at end.talk.sessions number ≡ Some session →
         SayMessages (queued handle passings session.value.session) (messages_by link since) }
     ensures attaches { (sessions old new end : LinkedSessions) (settings : Settings) (before since : List Deed)
-        (number link limit : ℕ) (its : LinkSettings) (events : List Event) (frames : List SessionFrame)
-        (passings : List Passing) (handle : OutputHandle) → IsNew linked settings sessions →
-        AreDone linked sessions before old →
-        IsDeed linked old (Does limit (AttachSender number its) (attaching link events) frames) new →
-        PassesIn number new since end passings → place_at end.links link ≡ Some (Held number handle) →
-        AttachesFirst handle its.name frames }
+        (deed : Deed) (number link : ℕ) (passings : List Passing) (handle : OutputHandle) (name : List ℕ) →
+        IsNew linked settings sessions → AreDone linked sessions before old → IsDeed linked old deed new →
+        Opens deed number link → PassesIn number new since end passings →
+        place_at end.links link ≡ Some (Held number handle) → NeverResumed link since →
+        attached_in old deed ≡ name ∷ [] → AttachesFirst handle name (gone_in deed) }
     ensures by_calls { (sessions : LinkedSessions) (settings : Settings) (calls : List Call) (told : List Told)
-        (end : State LinkedSessions) (link n number : ℕ) (its : LinkSettings) (events : List Event)
-        (handle : OutputHandle) (session : Session) → IsNew linked settings sessions →
-        Run linked (fresh settings sessions) calls told end →
-        slice_get (calls_done calls told) n ≡ Some (AttachSender number its, attaching link events) →
+        (end : State LinkedSessions) (link n number : ℕ) (it : Call) (answer : Answer) (handle : OutputHandle)
+        (session : Session) → IsNew linked settings sessions → Run linked (fresh settings sessions) calls told end →
+        slice_get (calls_done calls told) n ≡ Some (it, answer) → OpensBy it answer number link →
+        NeverCalledAgain link (those_behind n (calls_done calls told)) →
         place_at end.sessions.links link ≡ Some (Held number handle) →
         live_at end.sessions.talk.sessions number ≡ Some session →
         (did : IsDone linked settings.max_frame_size sessions (pulled_since [] calls told) (fed_since [] calls told)
         (told_since [] calls told) (done_since [] calls told) (events_told told) (calls_done calls told) end) ×
-        SaysSince sessions (did.before ++ did.since) number link its events handle end.sessions session
-        (messages_done link (calls_done calls told)) }
+        SaysSince sessions (did.before ++ did.since) number it answer handle end.sessions session
+        (messages_done link (those_behind n (calls_done calls told))) }
 {
     links_given_back_go_on();
     no_two_links_share_a_handle();
@@ -327,27 +327,26 @@ pub fn what_is_sent_is_queued_in_order()
 /// or hears (part 2, 2.6.3).
 pub fn attaches_are_calls()
     ensures named { (old new : LinkedSessions) (deed : Deed) → IsDeed linked old deed new →
-        names_in (gone_in deed) ≡ attached_in deed }
+        names_in (gone_in deed) ≡ attached_in old deed }
     ensures goes_first { (old new : LinkedSessions) (deed : Deed) (name : List ℕ) → IsDeed linked old deed new →
-        attached_in deed ≡ name ∷ [] → (handle : OutputHandle) × AttachesFirst handle name (gone_in deed) }
+        attached_in old deed ≡ name ∷ [] → (handle : OutputHandle) × AttachesFirst handle name (gone_in deed) }
 {}
 
 /// What a sending link is given to send is read off the frames of its session, by the link's name and a count: how often
-/// a sending end attached with this name in the session before the link did. The transfers of the attachment with this
-/// name and this count, among all frames that were handed out in the session since it was new, as they come to the peer,
-/// and behind them those that wait there, say the messages that the link accepted since it attached, in order, each whole
-/// (part 2, 2.6.2, 2.6.3, 2.6.12, 2.6.14). So it is whatever else the endpoint does and hears, as long as the session
-/// holds the link and goes on.
+/// a sending end attached with this name in the session before the link did, as a new one or again. The transfers of the
+/// attachment with this name and this count, among all frames that were handed out in the session since it was new, as
+/// they come to the peer, and behind them those that wait there, say the messages that the link accepted since it attached,
+/// in order, each whole (part 2, 2.6.2, 2.6.3, 2.6.12, 2.6.14). So it is whatever else the endpoint does and hears, as long
+/// as the session holds the link and goes on, and the link doesn't attach again.
 pub fn what_an_attachment_sends_is_what_it_accepted()
     ensures { (sessions old new end : LinkedSessions) (settings : Settings) (before since : List Deed)
-        (number link limit : ℕ) (its : LinkSettings) (events : List Event) (frames : List SessionFrame)
-        (first passings : List Passing) (handle : OutputHandle) (session : Session) → IsNew linked settings sessions →
-        PassesIn number sessions before old first →
-        IsDeed linked old (Does limit (AttachSender number its) (attaching link events) frames) new →
+        (deed : Deed) (number link : ℕ) (name : List ℕ) (first passings : List Passing) (handle : OutputHandle)
+        (session : Session) → IsNew linked settings sessions → PassesIn number sessions before old first →
+        IsDeed linked old deed new → OpensSending old deed number link name →
         PassesIn number new since end passings → place_at end.links link ≡ Some (Held number handle) →
-        live_at end.talk.sessions number ≡ Some session →
-        let read = attachment its.name (uses its.name (bodies_of (sent_in first)))
-        (bodies_of (sent_in first ++ frames ++ sent_in passings)) in
+        NeverResumed link since → live_at end.talk.sessions number ≡ Some session →
+        let read = attachment name (uses name (bodies_of (sent_in first)))
+        (bodies_of (sent_in first ++ gone_in deed ++ sent_in passings)) in
         SayMessages (read ++ pieces_waiting handle.0 session.value.session) (messages_by link since) }
 {
     links_given_back_go_on();
@@ -370,14 +369,14 @@ pub fn links_are_asked_for_by_an_attach()
 /// one on the handle of the peer's that leads to the link, whether it came before the link's own or behind. What the
 /// link hands out since the call by which it attaches is what the transfers of the attachment with this name and this
 /// count say, where none of them resumes a delivery (part 2, 2.6.2, 2.6.3, 2.6.12, 2.6.14). So it is whatever else the
-/// endpoint does and hears, as long as the link is attached.
+/// endpoint does and hears, as long as the link is attached, and never attaches again.
 pub fn what_an_attachment_hands_out_is_what_it_took()
     ensures { (sessions old new end : LinkedSessions) (settings : Settings) (before since : List Deed)
         (number link limit : ℕ) (its : LinkSettings) (events : List Event) (frames : List SessionFrame)
         (first passings : List Passing) (own : OutputHandle) (held : Option Incoming) → IsNew linked settings sessions →
         PassesIn number sessions before old first →
         IsDeed linked old (Does limit (AttachReceiver number its) (attaching link events) frames) new →
-        PassesIn number new since end passings → IsReceiving end link number own held →
+        PassesIn number new since end passings → IsReceiving end link number own held → NeverResumed link since →
         HandsOut end number own its.name (came_in first ++ came_in passings) (handed_by link (told_by since)) }
 {
     links_given_back_go_on();

@@ -1,7 +1,7 @@
 -- What was made ready for a link that answers one of the peer's serves once it answers.
-use Rattle.std.proofs.Common.{◌≡◌, ◌+◌, ◌≤◌, ◌<◌, ℕ, Bool, List, [], ◌++◌, Some, Option, refl, sym, ap, subst, ◌∙◌}
+use Rattle.std.proofs.Common.{◌≡◌, ◌+◌, ◌≤◌, ℕ, List, ◌++◌, Some, Option, refl, sym, ap, subst, ◌∙◌}
 use Rattle.std.proofs.Common.{arith}
-use Rattle.std.proofs.Common.{append_assoc, length}
+use Rattle.std.proofs.Common.{length}
 use Rattle.std.specs.Prelude.{IsSome, max, min, option_map}
 use Rattle.amqp_session_types.specs.declared.handles.InputHandle.{InputHandle}
 use Rattle.amqp_session_types.specs.declared.handles.OutputHandle.{OutputHandle}
@@ -9,7 +9,6 @@ use Rattle.amqp_session_types.specs.declared.error.Error.{Error}
 use Rattle.amqp_session_performatives.specs.declared.session_frame.SessionFrame.{SessionFrame}
 use Rattle.amqp_session_outgoing.specs.Queues.{frames_in, room_behind}
 use Rattle.amqp_session_outgoing.specs.State as sending
-use Rattle.amqp_session_core.specs.State.{link_at}
 use Rattle.amqp_session_core.specs.declared.batch.BehindFrame.{BehindFrame}
 use Rattle.amqp_session_core.specs.declared.batch.TransferFrame.{TransferFrame}
 use Rattle.amqp_link_unsettled.specs.declared.exchanging.Abort.{Abort}
@@ -35,13 +34,12 @@ use Rattle.amqp_endpoint_attached.proofs.Owned.{given_by}
 use Rattle.amqp_endpoint_attached.proofs.Refusing.{none_left}
 use Rattle.amqp_endpoint_messages.specs.All.{open_count}
 use Rattle.amqp_endpoint_messages.specs.GivingUp.{AttachedAt, DoesAttached, attached_told}
-use Rattle.amqp_endpoint_messages.specs.MadeReady.{HasRoomToSend, IsClosing, IsMadeReady, MadeRoom}
-use Rattle.amqp_endpoint_messages.specs.declared.giving_up.AttachReady.{AttachReady}
+use Rattle.amqp_endpoint_messages.specs.MadeReady.{HasRoomToSend, IsMadeReady, MadeRoom}
 use Rattle.amqp_endpoint_messages.specs.declared.giving_up.Closing.{Closing}
-use Rattle.amqp_endpoint_link_calls.specs.Answering.{IsBehind}
+use Rattle.amqp_endpoint_link_calls.specs.Answering.{IsAnswerReady}
 use Rattle.amqp_endpoint_link_calls.specs.Attaching.{AnswersAsked}
 use Rattle.amqp_endpoint_link_calls.specs.declared.placed.Placed.{Placed}
-use Rattle.amqp_endpoint_link_calls.specs.declared.placing.Behind.{Behind}
+use Rattle.amqp_endpoint_link_calls.specs.declared.placing.AnswerReady.{AnswerReady}
 
 -- a session but for its room for transfers
 abbrev roomy : Linked → ℕ → Linked
@@ -118,28 +116,33 @@ same-handle a b is = ap (λ (n : ℕ). let h : OutputHandle = record { 0 = n } i
 
 -- the link answered under the handle for which all was made ready
 module _ (limit : ℕ) (before ready mid : Linked) (link : End) (input : InputHandle) (session number : ℕ)
-    (prepared : PreparedAnswer) (closing : Closing) (behind : Behind) (answered : Answered)
-    (out out_mid : List SessionFrame) (len capacity : ℕ) (handle : OutputHandle)
-    (offers : handle ≡ offered before.session) (opened : ℕ) (counts : opened ≡ open_count (Some link))
-    (closes : IsClosing before session handle opened closing)
-    (made : MadeRoom before ready) (is : IsBehind limit ready closing prepared.taken behind len capacity)
-    (answers : Answers ready out limit number link input answered mid out_mid) where
+    (made : AnswerReady) (answered : Answered) (out out_mid : List SessionFrame) (len capacity : ℕ)
+    (is : IsAnswerReady limit before ready link input session made len capacity)
+    (so : IsPrepared limit ready link input made.prepared
+    → Answers ready out limit number link input answered mid out_mid) where
   abbrev own : Closing
-  own = behind.ready.closing
+  own = made.behind.ready.closing
+
+  answers : Answers ready out limit number link input answered mid out_mid
+  answers = so (prepared-still limit before ready is.room link input made.prepared is.prepared)
 
   offered-still : ready.session.offered ≡ before.session.offered
-  offered-still = ap (λ (s : Linked). s.session.offered) (made-roomy before ready made)
+  offered-still = ap (λ (s : Linked). s.session.offered) (made-roomy before ready is.room)
 
-  pub under : answered.handle ≡ handle
+  pub under : answered.handle ≡ is.handle
   under =
-      same-handle answered.handle handle
-      ((answers.allocates).1 ∙ offered-still ∙ sym (ap (λ (h : OutputHandle). h.0) offers))
+      same-handle answered.handle is.handle
+      ((answers.allocates).1 ∙ offered-still ∙ sym (ap (λ (h : OutputHandle). h.0) is.offers))
+
+  closing-is : own ≡ is.closing
+  closing-is = ((is.behind).ready).closing
 
   own-is : own.handle ≡ answered.handle
-  own-is = ap (λ (c : Closing). c.handle) (is.ready).closing ∙ ap (λ (c : Closing). c.handle) closes.is ∙ sym under
+  own-is =
+      ap (λ (c : Closing). c.handle) closing-is ∙ ap (λ (c : Closing). c.handle) (is.closes).is ∙ sym under
 
   pub held : own.session ≡ session
-  held = ap (λ (c : Closing). c.session) (is.ready).closing ∙ ap (λ (c : Closing). c.session) closes.is
+  held = ap (λ (c : Closing). c.session) closing-is ∙ ap (λ (c : Closing). c.session) (is.closes).is
 
   -- so the link is there
   pub there : IsSome (end_at mid own.handle)
@@ -151,9 +154,9 @@ module _ (limit : ℕ) (before ready mid : Linked) (link : End) (input : InputHa
       refl)
 
   -- and the room serves
-  pub sends-still : (more most : ℕ) → more ≤ len → most ≡ capacity → HasRoomToSend behind.ready mid more most
+  pub sends-still : (more most : ℕ) → more ≤ len → most ≡ capacity → HasRoomToSend made.behind.ready mid more most
   sends-still more most few same =
-      let r = is.sends in
+      let r = (is.behind).sends in
       let o : mid.session.outgoing ≡ ready.session.outgoing =
       ap (λ (s : LinksIn). s.outgoing) (answers.allocates).5 in
       let fits : more + (frames_in ready.session.outgoing.queues + ready.session.outgoing.room) + 1 ≤ most =
@@ -161,7 +164,7 @@ module _ (limit : ℕ) (before ready mid : Linked) (link : End) (input : InputHa
       record {
         room =
             subst
-            (λ (s : sending.State TransferFrame BehindFrame). length behind.ready.giving.batches.items ≤ s.room)
+            (λ (s : sending.State TransferFrame BehindFrame). length made.behind.ready.giving.batches.items ≤ s.room)
             (sym o) r.room;
         spare =
             subst
@@ -179,20 +182,20 @@ module _ (limit : ℕ) (before ready mid : Linked) (link : End) (input : InputHa
 
   -- it goes on by what the peer's Attach leaves to be done
   module _ (after : Linked) (placed : Placed) (out_new : List SessionFrame)
-      (left : left_to_do answered ≡ left_by prepared.taken) (numbered : placed.link ≡ number)
+      (left : left_to_do answered ≡ left_by made.prepared.taken) (numbered : placed.link ≡ number)
       (holds : placed.session ≡ own.session) (handled : placed.handle ≡ answered.handle)
-      (does : (l : ℕ) (aborts : List Abort) → IsMadeReady l own.handle aborts behind.ready.giving
+      (does : (l : ℕ) (aborts : List Abort) → IsMadeReady l own.handle aborts made.behind.ready.giving
       → DoesAttached l own.session own.count own.handle own.why aborts answered.kept mid out_mid
-      (behind.events.items ++ attached_told number answered.exchange) after out_new placed.events.items) where
-    to-give-up : IsMadeReady limit own.handle answered.aborts behind.ready.giving
+      (made.behind.events.items ++ attached_told number answered.exchange) after out_new placed.events.items) where
+    to-give-up : IsMadeReady limit own.handle answered.aborts made.behind.ready.giving
     to-give-up =
-        subst (λ (h : OutputHandle). IsMadeReady limit h answered.aborts behind.ready.giving)
-        (sym (ap (λ (c : Closing). c.handle) (is.ready).closing))
-        (subst (λ (l : List Abort). IsMadeReady limit closing.handle l behind.ready.giving)
-        (sym (ap (λ (a : Attaching). a.aborts) left ∙ aborts-left prepared.taken)) (is.ready).giving)
+        subst (λ (h : OutputHandle). IsMadeReady limit h answered.aborts made.behind.ready.giving)
+        (sym (ap (λ (c : Closing). c.handle) closing-is))
+        (subst (λ (l : List Abort). IsMadeReady limit (is.closing).handle l made.behind.ready.giving)
+        (sym (ap (λ (a : Attaching). a.aborts) left ∙ aborts-left made.prepared.taken)) ((is.behind).ready).giving)
 
     goes-on : DoesAttached limit own.session own.count own.handle own.why answered.aborts answered.kept mid out_mid
-        (behind.events.items ++ attached_told number answered.exchange) after out_new placed.events.items
+        (made.behind.events.items ++ attached_told number answered.exchange) after out_new placed.events.items
     goes-on = does limit answered.aborts to-give-up
 
     pub asked-answered : AnswersAsked before out limit link input placed after out_new
@@ -201,12 +204,12 @@ module _ (limit : ℕ) (before ready mid : Linked) (link : End) (input : InputHa
         let At : ℕ → ℕ → OutputHandle → Error → Type 0 = λ s count h says.
         AttachedAt limit s count h says answered.aborts answered.kept d.frames d.events mid after in
         let count_is : own.count ≡ open_count (Some link) =
-        ap (λ (c : Closing). c.count) (is.ready).closing ∙ ap (λ (c : Closing). c.count) closes.is ∙ counts in
+        ap (λ (c : Closing). c.count) closing-is ∙ ap (λ (c : Closing). c.count) (is.closes).is in
         let is_why : own.why ≡ error_of not_allowed =
-        ap (λ (c : Closing). c.why) (is.ready).closing ∙ ap (λ (c : Closing). c.why) closes.is in
+        ap (λ (c : Closing). c.why) closing-is ∙ ap (λ (c : Closing). c.why) (is.closes).is in
         record {
           ready = ready;
-          makes_room = made;
+          makes_room = is.room;
           answered = answered;
           handled = sym handled;
           mid = mid;
@@ -223,6 +226,6 @@ module _ (limit : ℕ) (before ready mid : Linked) (link : End) (input : InputHa
           queued = d.queued;
           told =
               d.are_told
-              ∙ ap (λ (l : List Event). (l ++ attached_told number answered.exchange) ++ d.events) is.none
+              ∙ ap (λ (l : List Event). (l ++ attached_told number answered.exchange) ++ d.events) (is.behind).none
               ∙ ap (λ (n : ℕ). attached_told n answered.exchange ++ d.events) (sym numbered);
         }

@@ -20,7 +20,6 @@ use Rattle.amqp_endpoint_links.specs.History.{AnswersLink, InSession}
 use Rattle.amqp_endpoint_tables.specs.Steps.{ChangesLive, Step}
 use Rattle.amqp_endpoint_model.specs.State.{error_of, fits, frame_of}
 use Rattle.amqp_endpoint_model.specs.Step.{not_allowed}
-use Rattle.amqp_endpoint_model.specs.declared.error.EndpointError.{EndpointError}
 use Rattle.amqp_endpoint_fitting.proofs.AttachFrames.{attach-fits}
 use Rattle.amqp_endpoint_fitting.specs.Read.{IsRead}
 use Rattle.amqp_endpoint_conversation.specs.Going.{AnswersPlain, Goes, NoneLive, Rests, Within}
@@ -28,6 +27,7 @@ use Rattle.amqp_endpoint_conversation.proofs.Calls.{changed-goes, changed-rests}
 use Rattle.amqp_endpoint_conversation.proofs.Goings.{goes-on, read-behind}
 use Rattle.amqp_endpoint_attached.specs.Linked.{Linked, LinksIn, gives}
 use Rattle.amqp_endpoint_attached.specs.Links.{attach_frame, with_number}
+use Rattle.amqp_endpoint_attached.specs.declared.refusal.Unattached.{Unattached}
 use Rattle.amqp_endpoint_attached.proofs.Fitting.{announced_fits, reply_plain}
 use Rattle.amqp_endpoint_messages.specs.All.{open_count}
 use Rattle.amqp_endpoint_messages.proofs.AttachDone.{Done, Stepped, attached-at, both, not-allowed-fits}
@@ -207,7 +207,7 @@ module _ (old new : LinkTalk) (out out_new : List SessionFrame) (is : new ≡ ol
 -- what comes of a session's answer, whichever it is
 module _ (old new : LinkTalk) (out out_new : List SessionFrame) (limit session : ℕ) (link : End)
     (from : ℕ) (is : from ≡ length out) (reads : All IsRead (drop from out_new)) where
-  pub live-goes : (r : Result Placed EndpointError) → 512 ≤ limit → limit < 2 ^ 32
+  pub live-goes : (r : Result Placed Unattached) → 512 ≤ limit → limit < 2 ^ 32
       → IfOk r (λ placed. AttachesIn old out limit session link placed new out_new)
       → IfOk r (λ placed. (placed.handle).0 < 2 ^ 32)
       → OnErr r ((new ≡ old) × (out_new ≡ out)) → Goes limit old new out out_new

@@ -15,6 +15,7 @@ pub mod AttachLent
 pub mod Own
 pub mod AttachGoing
 pub mod Entered
+pub mod Resumed
 pub mod Looked
 pub mod Unsent
 mod AskedAnswered

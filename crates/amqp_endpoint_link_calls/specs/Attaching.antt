@@ -1,12 +1,14 @@
 -- How a link attaches in one of an endpoint's sessions: part 2, 2.6.3.
-use Rattle.std.specs.Prelude.{◌≡◌, ℕ, max, List, [], ◌++◌, Option, Some, None}
+use Rattle.std.specs.Prelude.{◌≡◌, ℕ, max, true, List, [], ◌++◌, Option, Some, None}
 use Rattle.std.specs.Global.{Box}
 use Rattle.amqp_session_types.specs.declared.handles.InputHandle.{InputHandle}
 use Rattle.amqp_session_performatives.specs.declared.session_frame.SessionFrame.{SessionFrame}
+use Rattle.amqp_link.specs.Ends.{state_of}
 use Rattle.amqp_link.specs.declared.end.End.{End}
 use Rattle.amqp_endpoint_attached.specs.Answering.{Answers}
 use Rattle.amqp_endpoint_attached.specs.Attaching.{Attaches}
 use Rattle.amqp_endpoint_attached.specs.Linked.{Linked}
+use Rattle.amqp_endpoint_attached.specs.Links.{is_at_rest}
 use Rattle.amqp_endpoint_attached.specs.declared.answering.Answered.{Answered}
 use Rattle.amqp_endpoint_conversation.specs.Ending.{IsMapped}
 use Rattle.amqp_endpoint_messages.specs.All.{open_count}
@@ -15,7 +17,8 @@ use Rattle.amqp_endpoint_messages.specs.MadeReady.{MadeRoom}
 use Rattle.amqp_endpoint_model.specs.State.{error_of}
 use Rattle.amqp_endpoint_model.specs.Step.{not_allowed}
 use Rattle.amqp_endpoint_model.specs.declared.event.Event.{Event}
-use Rattle.amqp_endpoint_tables.specs.LinkSteps.{Enters, Step as NamesStep}
+use Rattle.amqp_endpoint_tables.specs.LinkState.{rest_at}
+use Rattle.amqp_endpoint_tables.specs.LinkSteps.{Enters, Holds, Step as NamesStep}
 use Rattle.amqp_endpoint_tables.specs.Steps.{ChangesLive, Step}
 use Rattle.amqp_endpoint_link_calls.specs.Naming.{Meets, name_of}
 use Rattle.amqp_endpoint_link_calls.specs.Places.{LinkTalk, LinksBy}
@@ -79,3 +82,22 @@ pub record LinkAttaches (old : LinkTalk) (links : LinksBy) (out : List SessionFr
   pub attaches : AttachesIn old [] limit session link placed new frames
   pub queued : out_new ≡ out ++ frames
   pub entered : NamesStep (with_room links) (Enters placed.link (name_of link) session placed.handle) links_new
+
+-- the link with this number, which is at rest, may attach again in the session with that one, which is mapped (2.5.5,
+-- 2.6.3)
+pub record MayResume (talk : LinkTalk) (links : LinksBy) (number session : ℕ) (link : End) : Type 0 where
+  pub mapped : IsMapped talk session
+  pub rests : rest_at links number ≡ Some link
+  pub state : is_at_rest (state_of link) ≡ true
+
+-- it attaches again there: the session holds it by its own handle there, and what it sends is handed out. It keeps its
+-- number
+pub record LinkResumes (old : LinkTalk) (links : LinksBy) (out : List SessionFrame) (limit number session : ℕ)
+    (placed : Placed) (new : LinkTalk) (links_new : LinksBy) (out_new : List SessionFrame) : Type 0 where
+  pub link : End
+  pub may : MayResume old links number session link
+  pub frames : List SessionFrame
+  pub attaches : AttachesIn old [] limit session link placed new frames
+  pub queued : out_new ≡ out ++ frames
+  pub numbered : placed.link ≡ number
+  pub held : NamesStep links (Holds number session placed.handle link) links_new

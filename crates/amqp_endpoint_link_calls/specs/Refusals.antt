@@ -1,25 +1,31 @@
 -- Why a link doesn't attach in one of an endpoint's sessions: part 2, 2.5.5, 2.6.1, 2.6.3, 2.7.2, 2.7.3.
-use Rattle.std.specs.Prelude.{◌≡◌, ◌<◌, ◌⊎◌, ℕ, List, Option, Some, None, IsSome, option_map}
+use Rattle.std.specs.Prelude.{◌≡◌, ◌<◌, ◌⊎◌, ℕ, Bool, false, List, Option, Some, None, IsSome, option_map}
 use Rattle.std.specs.FinMap as map
 use Rattle.std.specs.Global.{Box}
 use Rattle.amqp_session_types.specs.declared.handles.InputHandle.{InputHandle}
+use Rattle.amqp_session_types.specs.declared.handles.OutputHandle.{OutputHandle}
 use Rattle.amqp_session_types.specs.declared.refusals.SessionError.TheVariants.{HandleInUse as InUse}
 use Rattle.amqp_link_types.specs.declared.link_error.LinkError.{LinkError}
+use Rattle.amqp_link.specs.Ends.{state_of}
 use Rattle.amqp_link.specs.declared.end.End.{End}
 use Rattle.amqp_endpoint_links.specs.Asked.{Asked}
 use Rattle.amqp_endpoint_attached.specs.Answering.{RefusesAnswer, asked_failed}
 use Rattle.amqp_endpoint_attached.specs.Attaching.{RefusesAttach}
 use Rattle.amqp_endpoint_attached.specs.Linked.{Linked}
+use Rattle.amqp_endpoint_attached.specs.Links.{is_at_rest, offered}
 use Rattle.amqp_endpoint_attached.specs.Refusals.{FindsTested, IsOffered}
 use Rattle.amqp_endpoint_attached.specs.declared.refusal.AttachRefusal.{AttachRefusal}
 use Rattle.amqp_endpoint_attached.specs.declared.refusal.AttachRefusal.TheVariants as why
 use Rattle.amqp_endpoint_conversation.specs.Ending.{IsMapped}
 use Rattle.amqp_endpoint_model.specs.declared.error.EndpointError.{EndpointError}
-use Rattle.amqp_endpoint_model.specs.declared.error.EndpointError.TheVariants.{UnknownSession, IllegalState}
+use Rattle.amqp_endpoint_model.specs.declared.error.EndpointError.TheVariants.{UnknownLink, UnknownSession, IllegalState}
 use Rattle.amqp_endpoint_model.specs.declared.error.EndpointError.TheVariants.{DuplicatedLinkName, HandleMaxReached}
 use Rattle.amqp_endpoint_model.specs.declared.error.EndpointError.TheVariants.{FrameTooLarge, Memory, Session, Link}
-use Rattle.amqp_endpoint_tables.specs.LinkState.{IsNewName, name_at}
+use Rattle.amqp_endpoint_tables.specs.LinkState.{IsNewName, name_at, place_at as link_place}
 use Rattle.amqp_endpoint_tables.specs.State.{live_at, place_at}
+use Rattle.amqp_endpoint_tables.specs.declared.link_place.LinkPlace.{LinkPlace}
+use Rattle.amqp_endpoint_tables.specs.declared.link_place.LinkPlace.TheVariants.{AtRest, Held}
+use Rattle.amqp_endpoint_link_calls.specs.Attaching.{MayResume}
 use Rattle.amqp_endpoint_link_calls.specs.Naming.{Meets, name_of}
 use Rattle.amqp_endpoint_link_calls.specs.Places.{LinkTalk, LinksBy}
 
@@ -152,3 +158,35 @@ FindsAttaching talk links session link (Some (Link error)) =
 FindsAttaching talk links session link (Some Memory) =
     MayAttach talk links session (name_of link) × FindsIn talk session link (Some why.Memory)
 FindsAttaching talk links session link (Some e) = BarsName talk links session (name_of link) e
+
+-- a link in this place is at rest: no session holds it, and neither end is attached
+abbrev pub is_resting : LinkPlace End → Bool
+is_resting (Held session handle) = false
+is_resting (AtRest link) = is_at_rest (state_of link)
+
+-- the session with this number offers this handle (2.6.2)
+pub record OffersIn (talk : LinkTalk) (session : ℕ) (handle : OutputHandle) : Type 0 where
+  pub before : Box Linked
+  pub live : live_at talk.sessions session ≡ Some before
+  pub offers : handle ≡ offered (before.value).session
+
+-- the handle that it offers is above the peer's handle-max (2.7.2)
+pub record OffersNone (talk : LinkTalk) (session : ℕ) : Type 0 where
+  pub before : Box Linked
+  pub live : live_at talk.sessions session ≡ Some before
+  pub above : (before.value).session.handle_max < (before.value).session.offered
+
+-- why the link with this number doesn't attach again in the session with that one: no link has the number; no session has
+-- that one; the session isn't mapped, or the link isn't at rest; the handle that is offered is above the peer's
+-- handle-max; or its session refuses it, as any that attaches
+abbrev pub BarsResuming : ℕ → LinkTalk → LinksBy → ℕ → ℕ → EndpointError → Type 0
+BarsResuming limit talk links number session UnknownLink = link_place links number ≡ None
+BarsResuming limit talk links number session UnknownSession =
+    IsSome (link_place links number) × (place_at talk.sessions session ≡ None)
+BarsResuming limit talk links number session IllegalState =
+    (place : LinkPlace End) × (link_place links number ≡ Some place)
+    × (IsUnmapped talk session ⊎ (IsMapped talk session × (is_resting place ≡ false)))
+BarsResuming limit talk links number session HandleMaxReached =
+    (link : End) × MayResume talk links number session link × OffersNone talk session
+BarsResuming limit talk links number session e =
+    (link : End) × MayResume talk links number session link × BarsIn limit talk session link e

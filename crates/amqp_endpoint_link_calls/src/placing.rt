@@ -16,16 +16,17 @@ ghost use Rattle.amqp_endpoint_conversation.specs.Going.{Goes, Rests};
 ghost use Rattle.amqp_endpoint_messages.specs.GivingUp.{DoesAttached, IsBare, attached_told};
 ghost use Rattle.amqp_endpoint_messages.specs.MadeReady.{HasPlaceToClose, HasRoomToSend, HasRoomToTell, IsMadeReady};
 ghost use Rattle.amqp_endpoint_messages.specs.MadeReady.{MadeRoom};
-ghost use Rattle.amqp_endpoint_link_calls.specs.Answering.{IsBehind};
+ghost use Rattle.amqp_endpoint_link_calls.specs.Answering.{IsAnswerReady, IsBehind};
 ghost use Rattle.amqp_endpoint_link_calls.specs.Attaching.{AttachedBy, AttachesIn, AttachesOne};
-ghost use Rattle.amqp_endpoint_link_calls.specs.Refusals.{BarsIn, RefusesOne, of_refusal};
+ghost use Rattle.amqp_endpoint_link_calls.specs.Refusals.{BarsIn, RefusesIn, RefusesOne, of_refusal};
 
 use crate::LinkTalk;
 use crate::detaching::handle_is_short;
 use crate::meeting::met;
 use crate::placed::Placed;
 use amqp_endpoint_attached::{
-    Answered, AttachRefusal, LinkSession, Unattached, answer, attach, offered, prepare_answer,
+    Answered, AttachRefusal, LinkSession, PreparedAnswer, Unattached, answer, attach, offered,
+    prepare_answer,
 };
 use amqp_endpoint_fitting::frames_are_read;
 use amqp_endpoint_messages::{
@@ -39,9 +40,9 @@ use amqp_session_types::{InputHandle, SessionError};
 use std::alloc::{AllocError, Global};
 use std::collections::VecDeque;
 
-/// A link, which is at rest, attaches in the session with this number, which has begun, and is to have that number of
-/// its own.
-pub(crate) fn attach_live(
+/// A link that is new attaches in the session with this number, which has begun, and is to have that number of its own.
+/// Where it is refused it is given up.
+pub(crate) fn attach_new(
     talk: &mut LinkTalk,
     alloc: Global,
     limit: u32,
@@ -56,6 +57,42 @@ pub(crate) fn attach_live(
         AttachesIn talk.old out.old.items limit session link placed talk.new out.new.items) }
     ensures numbered { IfOk result (λ placed. placed.link ≡ number) }
     ensures err { IfErr result (BarsIn limit talk.old session link) }
+    ensures kept { OnErr result ((talk.new ≡ talk.old) × (out.new.items ≡ out.old.items)) }
+    ensures goes { 512 ≤ limit → Goes limit talk.old talk.new out.old.items out.new.items }
+    ensures rests { Rests talk.old talk.new out.old.items out.new.items }
+{
+    match attach_live(talk, alloc, limit, session, number, link, out) {
+        Ok(placed) => Ok(placed),
+        Err(refused) => Err(given_up(refused)),
+    }
+}
+
+/// The endpoint's name for why a link doesn't attach, which is given up.
+fn given_up(refused: Unattached) -> EndpointError
+    ensures { result ≡ of_refusal refused.refusal }
+{
+    let Unattached { refusal, link: _ } = refused;
+    of_refusal(refusal)
+}
+
+/// A link, which is at rest, attaches in the session with this number, which has begun, and is to have that number of
+/// its own. Where it is refused it comes back, as it was.
+pub(crate) fn attach_live(
+    talk: &mut LinkTalk,
+    alloc: Global,
+    limit: u32,
+    session: u64,
+    number: u64,
+    link: LinkEnd,
+    out: &mut VecDeque<SessionFrame>,
+) -> Result<Placed, Unattached>
+    requires mapped { IsMapped talk.old session }
+    requires at_rest { is_at_rest (state_of link) ≡ true }
+    ensures ok { IfOk result (λ placed.
+        AttachesIn talk.old out.old.items limit session link placed talk.new out.new.items) }
+    ensures numbered { IfOk result (λ placed. placed.link ≡ number) }
+    ensures err { IfErr result (λ refused.
+        RefusesIn limit talk.old session link refused.refusal × (refused.link ≡ link)) }
     ensures kept { OnErr result ((talk.new ≡ talk.old) × (out.new.items ≡ out.old.items)) }
     ensures goes { 512 ≤ limit → Goes limit talk.old talk.new out.old.items out.new.items }
     ensures rests { Rests talk.old talk.new out.old.items out.new.items }
@@ -75,23 +112,21 @@ fn attach_lent(
     number: u64,
     link: LinkEnd,
     out: &mut VecDeque<SessionFrame>,
-) -> Result<Placed, EndpointError>
+) -> Result<Placed, Unattached>
     requires mapped { IsMapped talk.old session }
     requires at_rest { is_at_rest (state_of link) ≡ true }
     ensures ok { IfOk result (λ placed.
         AttachesIn talk.old out.old.items limit session link placed talk.new out.new.items) }
     ensures numbered { IfOk result (λ placed. placed.link ≡ number) }
     ensures short { IfOk result (λ placed. placed.handle.0 < 2 ^ 32) }
-    ensures err { IfErr result (BarsIn limit talk.old session link) }
+    ensures err { IfErr result (λ refused.
+        RefusesIn limit talk.old session link refused.refusal × (refused.link ≡ link)) }
     ensures kept { OnErr result ((talk.new ≡ talk.old) × (out.new.items ≡ out.old.items)) }
 {
     let Some(live) = talk.sessions.live_mut(session) else {
         unreachable!()
     };
-    match attach_in(live, alloc, limit, session, number, link, out) {
-        Ok(placed) => Ok(placed),
-        Err(refusal) => Err(of_refusal(refusal)),
-    }
+    attach_in(live, alloc, limit, session, number, link, out)
 }
 
 /// A link, which is at rest, attaches in this session: of itself, or in answer to the one that the peer asks for.
@@ -103,13 +138,14 @@ fn attach_in(
     number: u64,
     link: LinkEnd,
     out: &mut VecDeque<SessionFrame>,
-) -> Result<Placed, AttachRefusal>
+) -> Result<Placed, Unattached>
     requires at_rest { is_at_rest (state_of link) ≡ true }
     ensures ok { IfOk result (λ placed.
         AttachesOne live.old out.old.items limit link placed live.new out.new.items) }
     ensures placed { IfOk result (λ placed. (placed.session ≡ session) × (placed.link ≡ number)) }
     ensures short { IfOk result (λ placed. placed.handle.0 < 2 ^ 32) }
-    ensures err { IfErr result (RefusesOne limit live.old link) }
+    ensures err { IfErr result (λ refused.
+        RefusesOne limit live.old link refused.refusal × (refused.link ≡ link)) }
     ensures kept { OnErr result ((live.new ≡ live.old) × (out.new.items ≡ out.old.items)) }
 {
     match met(&live.asked, &link) {
@@ -128,29 +164,67 @@ fn answer_asked(
     link: LinkEnd,
     input: InputHandle,
     out: &mut VecDeque<SessionFrame>,
-) -> Result<Placed, AttachRefusal>
+) -> Result<Placed, Unattached>
     requires asked { IsSome (map.get live.old.asked input.0) }
     requires at_rest { is_at_rest (state_of link) ≡ true }
     ensures ok { IfOk result (λ placed. AttachedBy (Some input) live.old out.old.items limit link placed live.new
         out.new.items) }
     ensures placed { IfOk result (λ placed. (placed.session ≡ session) × (placed.link ≡ number)) }
     ensures short { IfOk result (λ placed. placed.handle.0 < 2 ^ 32) }
-    ensures err { IfErr result (RefusesAnswer limit live.old link input) }
+    ensures err { IfErr result (λ refused.
+        RefusesAnswer limit live.old link input refused.refusal × (refused.link ≡ link)) }
     ensures kept { OnErr result ((live.new ≡ live.old) × (out.new.items ≡ out.old.items)) }
 {
-    let prepared = prepare_answer(live, alloc, limit, &link, input)?;
-    let handle = offered(&live.session)?;
-    handle_is_short(handle);
-    let closing = make_closing(live, alloc, session, handle, open_count(&link))?;
     let room = live.session.transfers_room();
-    let behind = make_behind(live, alloc, limit, closing, &prepared.taken, out)?;
+    let AnswerReady { prepared, behind } = match make_answer(
+        live, alloc, limit, session, &link, input, out,
+    ) {
+        Ok(ready) => ready,
+        Err(refusal) => return Err(Unattached { refusal, link }),
+    };
     match answer(live, alloc, number, link, input, prepared, out) {
         Ok(answered) => Ok(go_on(live, alloc, number, answered, behind, out)),
         Err(refused) => {
             live.session.lower_transfers(room);
-            Err(refusal_in(refused))
+            Err(refused)
         }
     }
+}
+
+/// What a link goes by that answers an asked one, made ready before it does.
+#[derive(Drop)]
+struct AnswerReady {
+    /// What it says.
+    prepared: PreparedAnswer,
+    /// What is left to be done behind that.
+    behind: Behind,
+}
+
+/// What this link goes by that answers the one which the peer asks for with this handle in the session with that number,
+/// and room for all of it. Of the session nothing changes but the room for transfers.
+fn make_answer(
+    live: &mut LinkSession,
+    alloc: Global,
+    limit: u32,
+    session: u64,
+    link: &LinkEnd,
+    input: InputHandle,
+    out: &mut VecDeque<SessionFrame>,
+) -> Result<AnswerReady, AttachRefusal>
+    requires asked { IsSome (map.get live.old.asked input.0) }
+    requires at_rest { is_at_rest (state_of link.now) ≡ true }
+    ensures ok { IfOk result (λ ready. IsAnswerReady limit live.old live.new link.now input session ready
+        (deque_len out.new + 1) (deque_capacity out.new)) }
+    ensures err { IfErr result (RefusesAnswer limit live.old link.now input) }
+    ensures kept { OnErr result (live.new ≡ live.old) }
+    ensures out { out.new.items ≡ out.old.items }
+{
+    let prepared = prepare_answer(live, alloc, limit, link, input)?;
+    let handle = offered(&live.session)?;
+    handle_is_short(handle);
+    let closing = make_closing(live, alloc, session, handle, open_count(link))?;
+    let behind = make_behind(live, alloc, limit, closing, &prepared.taken, out)?;
+    Ok(AnswerReady { prepared, behind })
 }
 
 /// What is left to be done behind the Attach of a link that answers an asked one, made ready before it does.
@@ -231,14 +305,6 @@ fn go_on(
     }
 }
 
-/// Why a link doesn't attach, which is given up.
-fn refusal_in(refused: Unattached) -> AttachRefusal
-    ensures { result ≡ refused.refusal }
-{
-    let Unattached { refusal, link: _ } = refused;
-    refusal
-}
-
 /// It attaches of itself, and waits for the peer's Attach.
 fn attach_own(
     live: &mut LinkSession,
@@ -248,13 +314,14 @@ fn attach_own(
     number: u64,
     link: LinkEnd,
     out: &mut VecDeque<SessionFrame>,
-) -> Result<Placed, AttachRefusal>
+) -> Result<Placed, Unattached>
     requires at_rest { is_at_rest (state_of link) ≡ true }
     ensures ok { IfOk result (λ placed. AttachedBy None live.old out.old.items limit link placed live.new
         out.new.items) }
     ensures placed { IfOk result (λ placed. (placed.session ≡ session) × (placed.link ≡ number)) }
     ensures short { IfOk result (λ placed. placed.handle.0 < 2 ^ 32) }
-    ensures err { IfErr result (RefusesAttach limit live.old.session link) }
+    ensures err { IfErr result (λ refused.
+        RefusesAttach limit live.old.session link refused.refusal × (refused.link ≡ link)) }
     ensures kept { OnErr result ((live.new ≡ live.old) × (out.new.items ≡ out.old.items)) }
 {
     match attach(live, alloc, limit, number, link, out) {
@@ -267,7 +334,7 @@ fn attach_own(
                 events: Vec::new(alloc),
             })
         }
-        Err(refused) => Err(refusal_in(refused)),
+        Err(refused) => Err(refused),
     }
 }
 

@@ -15,7 +15,7 @@ use Rattle.amqp_endpoint_model.specs.declared.call.Call.TheVariants.{Begin, Acce
 use Rattle.amqp_endpoint_model.specs.declared.call.Call.TheVariants.{AttachSender, AttachReceiver, Detach, CloseLink}
 use Rattle.amqp_endpoint_model.specs.declared.call.Call.TheVariants.{Grant, Drain, Credit, HeldBack}
 use Rattle.amqp_endpoint_model.specs.declared.call.Call.TheVariants.{Waiting as WaitingCall}
-use Rattle.amqp_endpoint_model.specs.declared.call.Call.TheVariants.{Send, Dispose, DisposeAll}
+use Rattle.amqp_endpoint_model.specs.declared.call.Call.TheVariants.{Resume, Send, Dispose, DisposeAll}
 use Rattle.amqp_endpoint_model.specs.Said.{Said, done, refused, fed, pulled, count, truth, tried_close, session_begun}
 use Rattle.amqp_endpoint_model.specs.Said.{tried_end, attaching, link_closed, credit_is, waiting, message_sent, Told}
 use Rattle.amqp_endpoint_model.specs.Relay.{Relations, Decides}
@@ -61,6 +61,7 @@ IsPlain (IsEnded number) = ⊥
 IsPlain (TryEnd number) = ⊥
 IsPlain (AttachSender session settings) = ⊥
 IsPlain (AttachReceiver session settings) = ⊥
+IsPlain (Resume link session) = ⊥
 IsPlain (Detach link) = ⊥
 IsPlain (CloseLink link) = ⊥
 IsPlain (Grant link credit) = ⊥
@@ -151,6 +152,7 @@ module _ {S : Type 0} (does : Relations S) where
   decided s (TryEnd number) a m plain step h = absurd plain
   decided s (AttachSender session settings) a m plain step h = absurd plain
   decided s (AttachReceiver session settings) a m plain step h = absurd plain
+  decided s (Resume link session) a m plain step h = absurd plain
   decided s (Detach link) a m plain step h = absurd plain
   decided s (CloseLink link) a m plain step h = absurd plain
   decided s (Grant link credit) a m plain step h = absurd plain
@@ -212,6 +214,7 @@ module _ {S : Type 0} (does : Relations S) where
   TheirStep s (TryEnd number) a m = Step does s (TryEnd number) a m
   TheirStep s (AttachSender session settings) a m = Step does s (AttachSender session settings) a m
   TheirStep s (AttachReceiver session settings) a m = Step does s (AttachReceiver session settings) a m
+  TheirStep s (Resume link session) a m = Step does s (Resume link session) a m
   TheirStep s (Detach link) a m = Step does s (Detach link) a m
   TheirStep s (CloseLink link) a m = Step does s (CloseLink link) a m
   TheirStep s (Grant link credit) a m = Step does s (Grant link credit) a m
@@ -274,6 +277,9 @@ module _ {S : Type 0} (does : Relations S) where
   sessions_said s (AttachReceiver session settings) (refused e) m (refuses, same) h =
       refused_said s (AttachReceiver session settings) e m refuses same h
   sessions_said s (AttachReceiver session settings) (attaching link events) m step h = called step
+  sessions_said s (Resume link session) (refused e) m (refuses, same) h =
+      refused_said s (Resume link session) e m refuses same h
+  sessions_said s (Resume link session) (attaching number events) m step h = called step
   sessions_said s (Detach link) (refused e) m (refuses, same) h =
       refused_said s (Detach link) e m refuses same h
   sessions_said s (Detach link) done m step h = called step
@@ -429,6 +435,8 @@ module _ {S : Type 0} (does : Relations S) (law : Decides does) where
       theirs-decide s (AttachSender session settings) a b m n r t h k
   step-decides s (AttachReceiver session settings) a b m n r t h k =
       theirs-decide s (AttachReceiver session settings) a b m n r t h k
+  step-decides s (Resume link session) a b m n r t h k =
+      theirs-decide s (Resume link session) a b m n r t h k
   step-decides s (Detach link) a b m n r t h k =
       theirs-decide s (Detach link) a b m n r t h k
   step-decides s (CloseLink link) a b m n r t h k =

@@ -12,7 +12,7 @@ use Rattle.amqp_endpoint_model.specs.declared.call.Call.TheVariants.{Begin, Acce
 use Rattle.amqp_endpoint_model.specs.declared.call.Call.TheVariants.{AttachSender, AttachReceiver, Detach, CloseLink}
 use Rattle.amqp_endpoint_model.specs.declared.call.Call.TheVariants.{Grant, Drain, Credit, HeldBack}
 use Rattle.amqp_endpoint_model.specs.declared.call.Call.TheVariants.{Waiting as WaitingCall}
-use Rattle.amqp_endpoint_model.specs.declared.call.Call.TheVariants.{Send, Dispose, DisposeAll}
+use Rattle.amqp_endpoint_model.specs.declared.call.Call.TheVariants.{Resume, Send, Dispose, DisposeAll}
 use Rattle.amqp_endpoint_model.specs.Relay.{Relations}
 use Rattle.amqp_endpoint_model.specs.Said.{Said, done, refused, fed, pulled, count, truth, tried_close, session_begun}
 use Rattle.amqp_endpoint_model.specs.Said.{tried_end, attaching, link_closed, credit_is, waiting, message_sent, Told}
@@ -81,6 +81,8 @@ module _ {S : Type 0} (does : Relations S) where
   step-settings old (TryEnd number) (tried_end o) new step = ap (λ s. s.settings) step.queued
   step-settings old (AttachSender session settings) (attaching link events) new step = ap (λ s. s.settings) step.queued
   step-settings old (AttachReceiver session settings) (attaching link events) new step =
+      ap (λ s. s.settings) step.queued
+  step-settings old (Resume link session) (attaching number events) new step =
       ap (λ s. s.settings) step.queued
   step-settings old (Detach link) done new step = ap (λ s. s.settings) step.queued
   step-settings old (CloseLink link) (link_closed events) new step = ap (λ s. s.settings) step.queued

@@ -23,7 +23,7 @@ use Rattle.amqp_endpoint_model.specs.declared.call.Call.TheVariants.{Begin, Acce
 use Rattle.amqp_endpoint_model.specs.declared.call.Call.TheVariants.{AttachSender, AttachReceiver, Detach, CloseLink}
 use Rattle.amqp_endpoint_model.specs.declared.call.Call.TheVariants.{Grant, Drain, Credit, HeldBack}
 use Rattle.amqp_endpoint_model.specs.declared.call.Call.TheVariants.{Waiting as WaitingCall}
-use Rattle.amqp_endpoint_model.specs.declared.call.Call.TheVariants.{Send, Dispose, DisposeAll}
+use Rattle.amqp_endpoint_model.specs.declared.call.Call.TheVariants.{Resume, Send, Dispose, DisposeAll}
 use Rattle.amqp_endpoint_model.specs.Relay.{Relations}
 use Rattle.amqp_endpoint_model.specs.Said.{Said, done, refused, pulled, count, truth, tried_close, session_begun}
 use Rattle.amqp_endpoint_model.specs.Said.{tried_end, attaching, link_closed, credit_is, waiting, message_sent}
@@ -665,6 +665,9 @@ module _ {S : Type 0} (does : Relations S) where
   quiet σ old (AttachReceiver session settings) (refused e) new q (bars, same) = quiet-same σ old new same
   quiet σ old (AttachReceiver session settings) (attaching link events) new q step =
       quiet-sessions σ old (AttachReceiver session settings) (attaching link events) new step
+  quiet σ old (Resume link session) (refused e) new q (bars, same) = quiet-same σ old new same
+  quiet σ old (Resume link session) (attaching number events) new q step =
+      quiet-sessions σ old (Resume link session) (attaching number events) new step
   quiet σ old (Detach link) (refused e) new q (bars, same) = quiet-same σ old new same
   quiet σ old (Detach link) done new q step =
       quiet-sessions σ old (Detach link) done new step

@@ -33,7 +33,7 @@ use Rattle.amqp_endpoint_model.specs.declared.call.Call.TheVariants.{Begin, Acce
 use Rattle.amqp_endpoint_model.specs.declared.call.Call.TheVariants.{AttachSender, AttachReceiver, Detach, CloseLink}
 use Rattle.amqp_endpoint_model.specs.declared.call.Call.TheVariants.{Grant, Drain, Credit, HeldBack}
 use Rattle.amqp_endpoint_model.specs.declared.call.Call.TheVariants.{Waiting as WaitingCall}
-use Rattle.amqp_endpoint_model.specs.declared.call.Call.TheVariants.{Send, Dispose, DisposeAll}
+use Rattle.amqp_endpoint_model.specs.declared.call.Call.TheVariants.{Resume, Send, Dispose, DisposeAll}
 use Rattle.amqp_session_performatives.specs.declared.open.Open.{Open as OpenFields}
 use Rattle.amqp_session_performatives.specs.declared.session_frame.SessionFrame.{SessionFrame}
 use Rattle.amqp_session_frames.specs.declared.state.ConnectionState.{ConnectionState}
@@ -408,6 +408,7 @@ module _ {S : Type 0} (does : Relations S) where
   IsRefused s (End number) e = SessionsRefuseCall s (End number) e
   IsRefused s (AttachSender session settings) e = SessionsRefuseCall s (AttachSender session settings) e
   IsRefused s (AttachReceiver session settings) e = SessionsRefuseCall s (AttachReceiver session settings) e
+  IsRefused s (Resume link session) e = SessionsRefuseCall s (Resume link session) e
   IsRefused s (Detach link) e = SessionsRefuseCall s (Detach link) e
   IsRefused s (CloseLink link) e = SessionsRefuseCall s (CloseLink link) e
   IsRefused s (Grant link credit) e = SessionsRefuseCall s (Grant link credit) e
@@ -468,6 +469,8 @@ module _ {S : Type 0} (does : Relations S) where
       SessionsDo old (AttachSender session settings) (attaching link events) new
   Step old (AttachReceiver session settings) (attaching link events) new =
       SessionsDo old (AttachReceiver session settings) (attaching link events) new
+  Step old (Resume link session) (attaching number events) new =
+      SessionsDo old (Resume link session) (attaching number events) new
   Step old (Detach link) done new = SessionsDo old (Detach link) done new
   Step old (CloseLink link) (link_closed events) new = SessionsDo old (CloseLink link) (link_closed events) new
   Step old (Grant link credit) (credit_is left) new = SessionsDo old (Grant link credit) (credit_is left) new

@@ -15,7 +15,7 @@ pub struct Fed {
     pub fault: Option<EndpointError>,
 }
 
-/// What `attach_sender` and `attach_receiver` answer.
+/// What `attach_sender`, `attach_receiver` and `resume` answer.
 #[derive(Debug, Drop)]
 pub struct Attaching {
     /// The number that the link has from now on.
@@ -55,7 +55,7 @@ pub enum Answer {
     Session(u64),
     /// What `try_end` answers.
     TriedEnd(Result<(), TryEndError>),
-    /// What `attach_sender` or `attach_receiver` answers.
+    /// What `attach_sender`, `attach_receiver` or `resume` answers.
     Attaching(Attaching),
     /// What `close_link` answers: the outcomes that it fails.
     LinkClosed(Vec<Event>),

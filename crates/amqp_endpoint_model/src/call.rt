@@ -63,6 +63,8 @@ pub enum Call {
     AttachSender(u64, Boxed<LinkSettings>),
     /// `attach_receiver` in the session with this number
     AttachReceiver(u64, Boxed<LinkSettings>),
+    /// `resume` of the link with the first number, in the session with the second
+    Resume(u64, u64),
     /// `detach` of the link with this number
     Detach(u64),
     /// `close_link` of the link with this number
@@ -105,6 +107,7 @@ impl Drop for Call {
             Call::TryEnd(_) => {}
             Call::AttachSender(_, _) => {}
             Call::AttachReceiver(_, _) => {}
+            Call::Resume(_, _) => {}
             Call::Detach(_) => {}
             Call::CloseLink(_) => {}
             Call::Grant(_, _) => {}

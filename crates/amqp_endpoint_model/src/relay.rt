@@ -11,7 +11,7 @@ ghost use Rattle.amqp_endpoint_model.specs.Said.{tried_end, truth, refusal_in, w
 ghost use Rattle.amqp_endpoint_model.specs.declared.call.Call.TheVariants.{AcceptBegin, AttachReceiver, AttachSender};
 ghost use Rattle.amqp_endpoint_model.specs.declared.call.Call.TheVariants.{Begin, CloseLink, Credit, Detach, Drain};
 ghost use Rattle.amqp_endpoint_model.specs.declared.call.Call.TheVariants.{End, Grant, HeldBack, IsEnded, TryEnd};
-ghost use Rattle.amqp_endpoint_model.specs.declared.call.Call.TheVariants.{Dispose, DisposeAll, Send, Waiting};
+ghost use Rattle.amqp_endpoint_model.specs.declared.call.Call.TheVariants.{Dispose, DisposeAll, Resume, Send, Waiting};
 ghost use Rattle.amqp_endpoint_model.specs.declared.call.Sending.{Sending};
 ghost use Rattle.amqp_endpoint_model.specs.declared.error.EndpointError.TheVariants.{Memory};
 
@@ -203,6 +203,29 @@ pub trait SessionRelay: Drop {
             (attaching a.link a.events.items) out.old.items self.new out.new.items) }
         ensures err { IfErr result (does.bars self.old limit
             (AttachReceiver session settings.now)) }
+        ensures kept { OnErr result ((self.new ≡ self.old) × (out.new.items ≡ out.old.items)) }
+        ensures within { does.within limit self.new }
+        ensures none { does.idle self.old → (most : ℕ) → does.within most self.new }
+        ensures quiet { does.idle self.old → out.new.items ≡ out.old.items }
+        ensures idle { does.idle self.old → does.idle self.new }
+        ensures still { StandsStill (does.connection self.old) (does.connection self.new) };
+
+    /// Attaches the link with this number again, which is at rest, in the session with that number, and answers its
+    /// number with what comes of it at once, as `attach_sender` does. Its Attach is handed out; it lists the deliveries
+    /// that it kept (part 2, 2.6.3, 2.6.13).
+    fn resume(
+        &mut self,
+        alloc: Global,
+        limit: u32,
+        link: u64,
+        session: u64,
+        out: &mut VecDeque<SessionFrame>,
+    ) -> Result<Attaching, EndpointError>
+        requires least { 512 ≤ limit }
+        requires waiting { does.within limit self.old }
+        ensures ok { IfOk result (λ a. Called does self.old limit (Resume link session)
+            (attaching a.link a.events.items) out.old.items self.new out.new.items) }
+        ensures err { IfErr result (does.bars self.old limit (Resume link session)) }
         ensures kept { OnErr result ((self.new ≡ self.old) × (out.new.items ≡ out.old.items)) }
         ensures within { does.within limit self.new }
         ensures none { does.idle self.old → (most : ℕ) → does.within most self.new }

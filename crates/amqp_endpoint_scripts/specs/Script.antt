@@ -11,7 +11,7 @@ use Rattle.amqp_endpoint_model.specs.declared.call.Call.{Call}
 use Rattle.amqp_endpoint_model.specs.declared.call.Call.TheVariants.{Connect, Feed, Pull, Heartbeat, BreakOff, Close}
 use Rattle.amqp_endpoint_model.specs.declared.call.Call.TheVariants.{Begin, AcceptBegin, End as EndCall, AttachSender}
 use Rattle.amqp_endpoint_model.specs.declared.call.Call.TheVariants.{AttachReceiver, Detach, CloseLink, Grant, Drain}
-use Rattle.amqp_endpoint_model.specs.declared.call.Call.TheVariants.{Waiting, Send, Dispose}
+use Rattle.amqp_endpoint_model.specs.declared.call.Call.TheVariants.{Waiting, Send, Dispose, Resume}
 use Rattle.amqp_endpoint_model.specs.declared.link.LinkSettings.{LinkSettings}
 use Rattle.amqp_session_states.specs.declared.delivery_state.DeliveryState.{DeliveryState}
 use Rattle.amqp_endpoint_core.specs.declared.step.End.{End}
@@ -71,6 +71,21 @@ grant_at link credit = None
 abbrev pub grant_of : List ℕ → List ℕ → List ℕ → Option Call
 grant_of verb link credit =
     if bytes_eq verb (codes "grant") then grant_at (number_under (2 ^ 64) link) (number_under (2 ^ 32) credit) else None
+
+abbrev pub resume_at : Option ℕ → Option ℕ → Option Call
+resume_at (Some link) (Some session) = Some (Resume link session)
+resume_at link session = None
+
+-- a link that attaches again: the link, and the session
+abbrev pub resume_of : List ℕ → List ℕ → List ℕ → Option Call
+resume_of verb link session =
+    if bytes_eq verb (codes "resume") then resume_at (number_under (2 ^ 64) link) (number_under (2 ^ 64) session) else
+    None
+
+-- the calls that a word names with two behind it: a grant to a link, or a link that attaches again
+abbrev pub call_with_two : List ℕ → List ℕ → List ℕ → Option Call
+call_with_two verb link second =
+    if bytes_eq verb (codes "grant") then grant_of verb link second else resume_of verb link second
 
 abbrev pub attached_by : (ℕ → LinkSettings → Call) → Option ℕ → Option LinkSettings → Option Call
 attached_by call (Some session) (Some settings) = Some (call session settings)
@@ -166,7 +181,7 @@ abbrev pub words_said : List (List ℕ) → Option Statement
 words_said (word ∷ []) = word_said word
 words_said (end ∷ verb ∷ []) = call_at (end_of end) (call_of verb)
 words_said (first ∷ second ∷ third ∷ []) = three_said first second third
-words_said (end ∷ verb ∷ link ∷ credit ∷ []) = call_at (end_of end) (grant_of verb link credit)
+words_said (end ∷ verb ∷ link ∷ second ∷ []) = call_at (end_of end) (call_with_two verb link second)
 words_said (end ∷ verb ∷ number ∷ second ∷ third ∷ []) =
     call_at (end_of end) (call_with_three verb number second third)
 words_said (end ∷ verb ∷ link ∷ message ∷ state ∷ settled ∷ []) =

@@ -3,8 +3,8 @@ ghost use Rattle.std.specs.Prelude.{◌≡◌, ◌==◌, ◌^◌, length, map, I
 ghost use Rattle.std.specs.List.{list_any};
 ghost use Rattle.amqp_endpoint_scripts.specs.Digits.{number_under};
 ghost use Rattle.amqp_endpoint_scripts.specs.Script.{bytes_of, call_at, call_of, call_with, call_with_three, count_of};
-ghost use Rattle.amqp_endpoint_scripts.specs.Script.{disposal_of, end_of, grant_of, move_from, parts_at, receiver_at};
-ghost use Rattle.amqp_endpoint_scripts.specs.Script.{send_of, sender_at, settings_at, settings_of, statement};
+ghost use Rattle.amqp_endpoint_scripts.specs.Script.{call_with_two, disposal_of, end_of, grant_of, move_from, parts_at};
+ghost use Rattle.amqp_endpoint_scripts.specs.Script.{receiver_at, resume_of, send_of, sender_at, settings_at, settings_of, statement};
 ghost use Rattle.amqp_endpoint_scripts.specs.Script.{three_said, word_said, words_said};
 ghost use Rattle.amqp_endpoint_scripts.specs.Terms.{sender_settings};
 
@@ -69,7 +69,7 @@ fn read_words(alloc: Global, words: &[&str]) -> Result<Option<Statement>, AllocE
         [word] => Ok(read_word(word)),
         [end, verb] => Ok(call_at(read_end(end), call_named(verb))),
         [first, second, third] => read_three(alloc, first, second, third),
-        [end, verb, link, credit] => Ok(call_at(read_end(end), read_grant(verb, link, credit))),
+        [end, verb, link, second] => Ok(call_at(read_end(end), read_with_two(verb, link, second))),
         [end, verb, number, second, third] => read_five(alloc, end, verb, number, second, third),
         [end, verb, link, message, state, settled] => {
             Ok(call_at(
@@ -235,6 +235,28 @@ fn read_call(alloc: Global, verb: &str, word: &str) -> Result<Option<Call>, Allo
         "waiting" => Ok(read_u64(word).map(Call::Waiting)),
         _ => Ok(None),
     }
+}
+
+/// The call that a word names with two behind it: a grant to a link, or a link that attaches again.
+fn read_with_two(verb: &str, link: &str, second: &str) -> Option<Call>
+    ensures { result ≡ call_with_two verb.now link.now second.now }
+{
+    if verb == "grant" {
+        return read_grant(verb, link, second);
+    }
+    read_resume(verb, link, second)
+}
+
+/// A link that attaches again: the link, and the session.
+fn read_resume(verb: &str, link: &str, session: &str) -> Option<Call>
+    ensures { result ≡ resume_of verb.now link.now session.now }
+{
+    if verb != "resume" {
+        return None;
+    }
+    let link = read_u64(link)?;
+    let session = read_u64(session)?;
+    Some(Call::Resume(link, session))
 }
 
 /// A grant to a link: the link, and how many messages.

@@ -1,24 +1,34 @@
+use Rattle.std.proofs.Common.{List, ℕ, subst, sym, ◌∙◌}
+use Rattle.amqp_endpoint_link_calls.specs.Naming.{name_of}
+use Rattle.amqp_endpoint_laws.specs.Attachments.{gone_in}
+use Rattle.amqp_endpoint_laws.specs.Queued.{AttachesFirst}
+use Rattle.amqp_endpoint_laws.proofs.AttachmentsCalled.{one-name}
+use Rattle.amqp_endpoint_laws.proofs.Opening.{opened}
 use Rattle.amqp_endpoint_laws.proofs.QueuedAttached.{attaches-first, says-all}
 use Rattle.amqp_endpoint_laws.proofs.QueuedCalled.{says-called}
 use Rattle.amqp_endpoint_laws.proofs.laws.what_is_sent_is_queued_in_order.Goals as goal
 
 pub returns-clause-says : goal.returns-clause-says
-returns-clause-says c = λ sessions old new end settings before since number link limit its events frames passings handle
-    session fresh done d passes held live.
+returns-clause-says c = λ sessions old new end settings before since deed number link passings handle session fresh done
+    d opens passes held never live.
+    let o = opened old new number link deed d opens in
     says-all c.no_two_links_share_a_handle.ensures.by_deeds c.links_given_back_go_on.ensures.back
     c.links_given_back_go_on.ensures.left c.links_given_back_go_on.ensures.finished sessions old new end settings before
-    since number link limit its events frames passings handle fresh done d passes held session live
+    since number link o.limit o.it o.events (gone_in deed) deed passings handle fresh done o.placed d passes held never
+    session live
 
 pub returns-clause-attaches : goal.returns-clause-attaches
-returns-clause-attaches c = λ sessions old new end settings before since number link limit its events frames passings
-    handle fresh done d passes held.
-    attaches-first c.no_two_links_share_a_handle.ensures.by_deeds c.links_given_back_go_on.ensures.back
+returns-clause-attaches c = λ sessions old new end settings before since deed number link passings handle name fresh done
+    d opens passes held never is.
+    let o = opened old new number link deed d opens in
+    subst (λ (n : List ℕ). AttachesFirst handle n (gone_in deed)) (one-name (name_of o.it) name (sym o.named ∙ is))
+    (attaches-first c.no_two_links_share_a_handle.ensures.by_deeds c.links_given_back_go_on.ensures.back
     c.links_given_back_go_on.ensures.left c.links_given_back_go_on.ensures.finished sessions old new end settings before
-    since number link limit its events frames passings handle fresh done d passes held
+    since number link o.limit o.it o.events (gone_in deed) deed passings handle fresh done o.placed d passes held never)
 
 pub returns-clause-by_calls : goal.returns-clause-by_calls
-returns-clause-by_calls c = λ sessions settings calls told end link n number its events handle session new run is held
-    live.
+returns-clause-by_calls c = λ sessions settings calls told end link n number it answer handle session new run is opens
+    never held live.
     says-called c.links_given_back_go_on.ensures.back c.links_given_back_go_on.ensures.left
-    c.links_given_back_go_on.ensures.finished link c.no_two_links_share_a_handle.ensures.by_deeds sessions settings
-    calls told end n number its events handle session new run is held live
+    c.links_given_back_go_on.ensures.finished c.no_two_links_share_a_handle.ensures.by_deeds sessions settings calls told
+    end link n number it answer handle session new run opens never is held live

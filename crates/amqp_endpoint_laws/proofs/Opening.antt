@@ -1,0 +1,123 @@
+-- A link begins to be attached: its call places it in the session, under its number.
+use Rattle.std.proofs.Common.{◌≡◌, ℕ, List, [], ◌∷◌, ap, refl, subst, sym, ◌∙◌}
+use Rattle.std.proofs.lemmas.Option.{same_Some}
+use Rattle.amqp_session_types.specs.declared.modes.Role.TheVariants.{Sender}
+use Rattle.amqp_session_performatives.specs.declared.session_frame.SessionFrame.{SessionFrame}
+use Rattle.amqp_link.specs.declared.end.End.{End}
+use Rattle.amqp_endpoint_attached.specs.Ends.{role_of}
+use Rattle.amqp_endpoint_attached.specs.Links.{receiver_by, sender_by}
+use Rattle.amqp_endpoint_model.specs.Said.{Said, attaching}
+use Rattle.amqp_endpoint_model.specs.declared.call.Call.{Call}
+use Rattle.amqp_endpoint_model.specs.declared.call.Call.TheVariants as call
+use Rattle.amqp_endpoint_model.specs.declared.event.Event.{Event}
+use Rattle.amqp_endpoint_link_calls.specs.Naming.{name_of}
+use Rattle.amqp_endpoint.specs.Does.{linked}
+use Rattle.amqp_endpoint.specs.declared.linked.LinkedSessions.{LinkedSessions}
+use Rattle.amqp_endpoint_laws.specs.Attachments.{attached_in, gone_in, named_if}
+use Rattle.amqp_endpoint_laws.specs.Deeds.{Deed, Does, IsDeed}
+use Rattle.amqp_endpoint_laws.specs.Opening.{Opens, OpensBy, OpensSending}
+use Rattle.amqp_endpoint_laws.proofs.Placing.{IsPlaced, is-again, is-new}
+
+pub record Opened (old new : LinkedSessions) (deed : Deed) (number link : ℕ) : Type 0 where
+  pub limit : ℕ
+  pub it : End
+  pub events : List Event
+  pub placed : IsPlaced old.talk old.links limit number it link events (gone_in deed) new.talk new.links
+  pub named : attached_in old deed ≡ name_of it ∷ []
+
+-- one that sends, with its name
+pub record OpenedSending (old new : LinkedSessions) (deed : Deed) (number link : ℕ) (name : List ℕ) : Type 0 where
+  pub opened : Opened old new deed number link
+  pub sends : role_of (opened.it) ≡ Sender
+  pub named : name_of (opened.it) ≡ name
+
+module _ (old new : LinkedSessions) (number link : ℕ) where
+  -- by whichever numbers it says so
+  moved : (deed : Deed) (n l : ℕ) → n ≡ number → l ≡ link → Opened old new deed n l → Opened old new deed number link
+  moved deed n l in_it is o =
+      subst (λ (m : ℕ). Opened old new deed m link) in_it (subst (λ (k : ℕ). Opened old new deed n k) is o)
+
+  opened-by : (it : Call) (answer : Said) (limit : ℕ) (frames : List SessionFrame)
+      → IsDeed linked old (Does limit it answer frames) new → OpensBy it answer number link
+      → Opened old new (Does limit it answer frames) number link
+  opened-by (call.AttachSender n its) (attaching one events) limit frames d (in_it, is) =
+      moved (Does limit (call.AttachSender n its) (attaching one events) frames) n one in_it is
+      (record {
+        limit = limit;
+        it = sender_by its;
+        events = events;
+        placed = is-new old.talk new.talk old.links new.links limit n (sender_by its) one events frames d.0;
+        named = refl;
+      })
+  opened-by (call.AttachReceiver n its) (attaching one events) limit frames d (in_it, is) =
+      moved (Does limit (call.AttachReceiver n its) (attaching one events) frames) n one in_it is
+      (record {
+        limit = limit;
+        it = receiver_by its;
+        events = events;
+        placed = is-new old.talk new.talk old.links new.links limit n (receiver_by its) one events frames d.0;
+        named = refl;
+      })
+  opened-by (call.Resume one n) (attaching answered events) limit frames d (in_it, is) =
+      moved (Does limit (call.Resume one n) (attaching answered events) frames) n one in_it is
+      (record {
+        limit = limit;
+        it = d.0.resumes.link;
+        events = events;
+        placed = is-again old.talk new.talk old.links new.links limit n one answered events frames d.0;
+        named = ap named_if d.0.resumes.may.rests;
+      })
+  opened-by it answer limit frames d opens = absurd opens
+
+  pub opened : (deed : Deed) → IsDeed linked old deed new → Opens deed number link → Opened old new deed number link
+  opened (Does limit it answer frames) d opens = opened-by it answer limit frames d opens
+  opened deed d opens = absurd opens
+
+  module _ (name : List ℕ) where
+    moved-sending : (deed : Deed) (n l : ℕ) → n ≡ number → l ≡ link → OpenedSending old new deed n l name
+        → OpenedSending old new deed number link name
+    moved-sending deed n l in_it is o =
+        subst (λ (m : ℕ). OpenedSending old new deed m link name) in_it
+        (subst (λ (k : ℕ). OpenedSending old new deed n k name) is o)
+
+    sending-by : (it : Call) (answer : Said) (limit : ℕ) (frames : List SessionFrame)
+        → IsDeed linked old (Does limit it answer frames) new
+        → OpensSending old (Does limit it answer frames) number link name
+        → OpenedSending old new (Does limit it answer frames) number link name
+    sending-by (call.AttachSender n its) (attaching one events) limit frames d (in_it, is, named) =
+        moved-sending (Does limit (call.AttachSender n its) (attaching one events) frames) n one in_it is
+        (record {
+          opened =
+              record {
+                limit = limit;
+                it = sender_by its;
+                events = events;
+                placed =
+                    is-new old.talk new.talk old.links new.links limit n (sender_by its) one events frames d.0;
+                named = refl;
+              };
+          sends = refl;
+          named = named;
+        })
+    sending-by (call.Resume one n) (attaching answered events) limit frames d (in_it, is, rest) =
+        let same : rest.end ≡ d.0.resumes.link = same_Some _ _ (sym rest.rests ∙ d.0.resumes.may.rests) in
+        moved-sending (Does limit (call.Resume one n) (attaching answered events) frames) n one in_it is
+        (record {
+          opened =
+              record {
+                limit = limit;
+                it = d.0.resumes.link;
+                events = events;
+                placed =
+                    is-again old.talk new.talk old.links new.links limit n one answered events frames d.0;
+                named = ap named_if d.0.resumes.may.rests;
+              };
+          sends = ap role_of (sym same) ∙ rest.sends;
+          named = ap name_of (sym same) ∙ rest.named;
+        })
+    sending-by it answer limit frames d opens = absurd opens
+
+    pub opened-sending : (deed : Deed) → IsDeed linked old deed new → OpensSending old deed number link name
+        → OpenedSending old new deed number link name
+    opened-sending (Does limit it answer frames) d opens = sending-by it answer limit frames d opens
+    opened-sending deed d opens = absurd opens
