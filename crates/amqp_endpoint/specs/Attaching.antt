@@ -15,7 +15,8 @@ pub record LinkAttached (old : Talk) (links : Links) (limit session : ℕ) (link
   pub numbered : number ≡ placed.link
   pub told : events ≡ placed.events.items
 
--- the link with this number attaches again in the session with that one, this number is answered, and this is told of it
+-- the link with this number attaches again in the session with that one, this number is answered, and this is told of
+-- it
 pub record LinkResumed (old : Talk) (links : Links) (limit link session number : ℕ) (events : List Event)
     (frames : List SessionFrame) (new : Talk) (links_new : Links) : Type 0 where
   pub placed : Placed

@@ -8,7 +8,7 @@ ghost use Rattle.amqp_endpoint.specs.Attaching.{LinkAttached, LinkResumed};
 
 use amqp_endpoint_conversation::Conversation;
 use amqp_endpoint_link_calls as link;
-use amqp_endpoint_link_calls::Placed;
+use amqp_endpoint_link_calls::{Again, Placed};
 use amqp_endpoint_links::Numbered;
 use amqp_endpoint_model::{Attaching, EndpointError, LinkSettings};
 use amqp_endpoint_tables::Links;
@@ -75,19 +75,18 @@ pub(crate) fn resume(
     links: &mut Links<LinkEnd>,
     alloc: Global,
     limit: u32,
-    link: u64,
-    session: u64,
+    again: Again,
     out: &mut VecDeque<SessionFrame>,
 ) -> Result<Attaching, EndpointError>
-    ensures ok { IfOk result (λ a. Hands (λ frames. LinkResumed talk.old links.old limit link session a.link
-        a.events.items frames talk.new links.new) out.old.items out.new.items) }
-    ensures err { IfErr result (BarsResuming limit talk.old links.old link session) }
+    ensures ok { IfOk result (λ a. Hands (λ frames. LinkResumed talk.old links.old limit again.link again.session
+        a.link a.events.items frames talk.new links.new) out.old.items out.new.items) }
+    ensures err { IfErr result (BarsResuming limit talk.old links.old again.link again.session) }
     ensures kept { OnErr result
         ((talk.new ≡ talk.old) × (links.new ≡ links.old) × (out.new.items ≡ out.old.items)) }
     ensures goes { 512 ≤ limit → Goes limit talk.old talk.new out.old.items out.new.items }
     ensures rests { Rests talk.old talk.new out.old.items out.new.items }
 {
-    let placed = link::resume(talk, links, alloc, limit, link, session, out)?;
+    let placed = link::resume(talk, links, alloc, limit, again, out)?;
     Ok(told(placed))
 }
 

@@ -5,6 +5,7 @@ use crate::sending::{send, send_refusal};
 use amqp_endpoint_conversation::Conversation;
 use amqp_endpoint_link_calls as calls;
 use amqp_endpoint_link_calls as messages;
+use amqp_endpoint_link_calls::Again;
 use amqp_endpoint_linking as linking;
 use amqp_endpoint_links::Numbered;
 use amqp_endpoint_model::{
@@ -181,15 +182,8 @@ impl SessionRelay for LinkedSessions {
         session: u64,
         out: &mut VecDeque<SessionFrame>,
     ) -> Result<Attaching, EndpointError> {
-        resume(
-            &mut self.talk,
-            &mut self.links,
-            alloc,
-            limit,
-            link,
-            session,
-            out,
-        )
+        let again = Again { link, session };
+        resume(&mut self.talk, &mut self.links, alloc, limit, again, out)
     }
 
     fn detach(

@@ -15,10 +15,12 @@ use Rattle.amqp_endpoint_attached.specs.Answering.{RefusesAnswer, RefusesExchang
 use Rattle.amqp_endpoint_attached.specs.Attaching.{RefusesAttach}
 use Rattle.amqp_endpoint_attached.specs.Linked.{Linked}
 use Rattle.amqp_endpoint_attached.specs.Links.{offered}
-use Rattle.amqp_endpoint_attached.specs.Refusals.{IsOffered, RefusesHandle, RefusesOwn, RefusesPeer, refusal_of, test_failed}
+use Rattle.amqp_endpoint_attached.specs.Refusals.{IsOffered, MayWant, RefusesHandle, RefusesOwn, RefusesPeer}
+use Rattle.amqp_endpoint_attached.specs.Refusals.{refusal_of, test_failed}
 use Rattle.amqp_endpoint_attached.specs.declared.exchanging.PreparedAnswer.{PreparedAnswer}
 use Rattle.amqp_endpoint_attached.specs.declared.refusal.AttachRefusal.{AttachRefusal}
-use Rattle.amqp_endpoint_attached.specs.declared.refusal.AttachRefusal.TheVariants.{HandleMaxReached, HandleInUse, Link, FrameTooLarge, Memory}
+use Rattle.amqp_endpoint_attached.specs.declared.refusal.AttachRefusal.TheVariants.{HandleMaxReached, HandleInUse, Link}
+use Rattle.amqp_endpoint_attached.specs.declared.refusal.AttachRefusal.TheVariants.{FrameTooLarge, Memory}
 
 -- the session's refusal of a link
 module _ {R : Type 0} (s : State R) where
@@ -87,7 +89,7 @@ module _ {R : Type 0} (limit : ℕ) (s : State R) (link : End) (asked : AskedLin
   peer_refused HandleInUse given r = absurd r
   peer_refused (Link error) given r = (given, r)
   peer_refused FrameTooLarge given r = absurd r
-  peer_refused Memory given r = given
+  peer_refused Memory given r = (given, r)
 
   behind_refused : (handle : OutputHandle) (e : AttachRefusal) → handle ≡ offered s → IsOffered s
       → test_failed link asked.attach ≡ None → RefusesOwn limit link handle e → RefusesExchange limit s link asked e
@@ -96,7 +98,7 @@ module _ {R : Type 0} (limit : ℕ) (s : State R) (link : End) (asked : AskedLin
   behind_refused handle (Link error) is given passes r = absurd r
   behind_refused handle FrameTooLarge is given passes r =
       (given, passes, subst (λ (h : OutputHandle). RefusesOwn limit link h FrameTooLarge) is r)
-  behind_refused handle Memory is given passes r = given
+  behind_refused handle Memory is given passes r = (given, inl passes)
 
   -- by its tests, or else by its own Attach
   pub exchange_refused : {A : Type 0} (handle : OutputHandle) (taken : Result A AttachRefusal)
@@ -121,7 +123,8 @@ module _ (limit : ℕ) (s : Linked) (link : End) (input : InputHandle) (asked : 
       (given, ap (λ (o : Option AskedLink). asked_failed link o) there ∙ failed)
   exchanged_refused FrameTooLarge (given, passes, fits) =
       (given, ap (λ (o : Option AskedLink). asked_failed link o) there ∙ passes, fits)
-  exchanged_refused Memory r = r
+  exchanged_refused Memory (given, may) =
+      (given, subst (λ (o : Option AskedLink). MayWant (asked_failed link o)) (sym there) may)
 
   pub prepared_refused : (r : Result PreparedAnswer AttachRefusal)
       → IfErr r (RefusesExchange limit s.session link asked) → IfErr r (RefusesAnswer limit s link input)
@@ -136,6 +139,7 @@ module _ (limit : ℕ) (s : Linked) (link : End) (input : InputHandle) (asked : 
       (given, ap (λ (o : Option AskedLink). asked_failed link o) there ∙ passes, r)
   none_left (Link error) given passes r = absurd r
   none_left FrameTooLarge given passes r = absurd r
-  none_left Memory given passes r = r
+  none_left Memory given passes r =
+      (given, inl (ap (λ (o : Option AskedLink). asked_failed link o) there ∙ passes))
 
 pub ruleset rules = (handle_refused, input_refused, own_refused, attach_refused, exchange_refused)

@@ -1,19 +1,23 @@
 -- What a link at rest that takes a peer's Attach comes to, and what refuses it.
-use Rattle.std.proofs.Common.{◌≡◌, Bool, true, false, Option, Some, None, option_map, Result, Ok, Err, refl, sym, ap, subst, ◌∙◌}
-use Rattle.std.specs.Prelude.{IsSome}
+use Rattle.std.proofs.Common.{◌≡◌, inl, inr, Bool, true, false, Option, Some, None, option_map, Result, Ok, Err}
+use Rattle.std.proofs.Common.{refl, sym, ap, subst, ◌∙◌}
+use Rattle.std.specs.Prelude.{IsOk, IsSome}
 use Rattle.amqp_session_performatives.specs.declared.attach.Attach.{Attach}
 use Rattle.amqp_link_types.specs.declared.attaching.ReceiverAttachError.{ReceiverAttachError}
+use Rattle.amqp_link_types.specs.declared.attaching.ReceiverAttachError.TheVariants.{DesiredFilterNotSupported}
 use Rattle.amqp_link_types.specs.declared.attaching.SenderAttachError.{SenderAttachError}
 use Rattle.amqp_link_types.specs.declared.link_error.LinkError.{LinkError}
 use Rattle.amqp_link_types.specs.declared.link_error.LinkError.TheVariants.{SenderAttach, ReceiverAttach}
 use Rattle.amqp_link_base.specs.State.{after_incoming_attach, after_send_attach}
+use Rattle.amqp_link_base.specs.Tests.{IsOfFilters}
 use Rattle.amqp_link_base.specs.declared.state.LinkState.{LinkState}
 use Rattle.amqp_link_base.specs.declared.state.LinkState.TheVariants.{Unattached, AttachSent, IncompleteAttachSent}
 use Rattle.amqp_link_base.specs.declared.state.LinkState.TheVariants.{AttachReceived, IncompleteAttachReceived}
 use Rattle.amqp_link_base.specs.declared.state.LinkState.TheVariants.{Attached, IncompleteAttachExchanged, DetachSent}
 use Rattle.amqp_link_base.specs.declared.state.LinkState.TheVariants.{Detached, CloseSent, Closed}
 use Rattle.amqp_link.specs.Ends.{state_of}
-use Rattle.amqp_link.specs.Preparing.{IsFor, attach_planned, carried_out, left_by, receiver_planned, sender_planned}
+use Rattle.amqp_link.specs.Preparing.{IsFor, MayWantMemory, attach_planned, carried_out, left_by, receiver_planned}
+use Rattle.amqp_link.specs.Preparing.{sender_planned}
 use Rattle.amqp_link.specs.declared.end.End.{End}
 use Rattle.amqp_link.specs.declared.end.End.TheVariants.{Sender, Receiver}
 use Rattle.amqp_link.specs.declared.preparing.PreparedAttach.{PreparedAttach}
@@ -30,7 +34,7 @@ use Rattle.amqp_link_sender.specs.declared.attaching.AttachAnswer.TheVariants as
 use Rattle.amqp_endpoint_attached.proofs.Owned.{some_is}
 use Rattle.amqp_endpoint_attached.specs.Answering.{Takes}
 use Rattle.amqp_endpoint_attached.specs.Links.{is_at_rest}
-use Rattle.amqp_endpoint_attached.specs.Refusals.{test_failed}
+use Rattle.amqp_endpoint_attached.specs.Refusals.{MayWant, TellsList, test_failed}
 
 -- the state behind an Attach of the peer that comes at rest: the own one may be sent
 record StandsBehind (state : LinkState) (incomplete : Bool) : Type 0 where
@@ -174,4 +178,32 @@ fails (Receiver s) attach error rest plans =
     receiver_fails (after_incoming_attach s.base.local_state attach.incomplete_unsettled)
     (receiver.attach_error s attach) s attach error b.next b.is (sym plans)
 
-pub ruleset rules = (taken_passes, fails)
+-- where there is no memory, it passes each test, or fails one that tells a list
+sender_wants : (o : Option LinkState) (e : Option SenderAttachError) (s : Sending) (attach : Attach)
+    → IsOk (sender.planned_by o e s attach) → MayWant (option_map SenderAttach e)
+sender_wants None e s attach wants = let clash : false ≡ true = wants in absurd cc
+sender_wants (Some state) (Some error) s attach wants = let clash : false ≡ true = wants in absurd cc
+sender_wants (Some state) None s attach wants = inl refl
+
+tells_list : (error : ReceiverAttachError) → IsOfFilters (Some error) → TellsList (Some (ReceiverAttach error))
+tells_list (DesiredFilterNotSupported filters) wants = tt
+tells_list error wants = absurd wants
+
+receiver_wants : (o : Option LinkState) (e : Option ReceiverAttachError) (s : ReceiverState) (attach : Attach)
+    (next : LinkState) → o ≡ Some next → receiver.MayWantMemory (receiver.planned_by o e s attach)
+    → MayWant (option_map ReceiverAttach e)
+receiver_wants None e s attach next is wants = absurd cc
+receiver_wants (Some state) (Some error) s attach next is wants = inr (tells_list error wants)
+receiver_wants (Some state) None s attach next is wants = inl refl
+
+pub may_want : (link : End) (attach : Attach) → is_at_rest (state_of link) ≡ true → MayWantMemory link attach
+    → MayWant (test_failed link attach)
+may_want (Sender s) attach rest wants =
+    sender_wants (after_incoming_attach s.base.local_state attach.incomplete_unsettled) (sender.attach_refusal s attach)
+    s attach wants
+may_want (Receiver s) attach rest wants =
+    let b = behind s.base.local_state attach.incomplete_unsettled rest in
+    receiver_wants (after_incoming_attach s.base.local_state attach.incomplete_unsettled)
+    (receiver.attach_error s attach) s attach b.next b.is wants
+
+pub ruleset rules = (taken_passes, fails, may_want)

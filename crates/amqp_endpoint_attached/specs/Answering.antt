@@ -21,7 +21,7 @@ use Rattle.amqp_endpoint_links.specs.declared.links.AskedLink.{AskedLink}
 use Rattle.amqp_endpoint_links.specs.declared.numbered.Numbered.{Numbered}
 use Rattle.amqp_endpoint_attached.specs.Linked.{Linked, LinksIn, gives}
 use Rattle.amqp_endpoint_attached.specs.Links.{Announces, FitsNoFrame, attach_frame, attach_sent, offered, with_number}
-use Rattle.amqp_endpoint_attached.specs.Refusals.{IsOffered, outcome, test_failed}
+use Rattle.amqp_endpoint_attached.specs.Refusals.{IsOffered, MayWant, outcome, test_failed}
 use Rattle.amqp_endpoint_attached.specs.declared.answering.Answered.{Answered}
 use Rattle.amqp_endpoint_attached.specs.declared.exchanging.PreparedAnswer.{PreparedAnswer}
 use Rattle.amqp_endpoint_attached.specs.declared.refusal.AttachRefusal.{AttachRefusal}
@@ -34,7 +34,8 @@ asked_failed link None = None
 asked_failed link (Some asked) = test_failed link asked.attach
 
 -- why it doesn't: no handle is offered that the peer allows, or a test fails, or its own Attach fits no frame, or a
--- link of the session has the peer's handle, or there is no memory
+-- link of the session has the peer's handle. Want of memory stands in place of the last two, and of a test alone that
+-- tells a list
 abbrev pub RefusesAnswer : ℕ → Linked → End → InputHandle → AttachRefusal → Type 0
 RefusesAnswer limit s link input HandleMaxReached = s.session.handle_max < s.session.offered
 RefusesAnswer limit s link input (Link error) =
@@ -45,7 +46,8 @@ RefusesAnswer limit s link input FrameTooLarge =
 RefusesAnswer limit s link input HandleInUse =
     IsOffered s.session × (asked_failed link (map.get s.asked input.0) ≡ None)
     × IsSome (map.get s.session.routes input.0)
-RefusesAnswer limit s link input Memory = IsOffered s.session
+RefusesAnswer limit s link input Memory =
+    IsOffered s.session × MayWant (asked_failed link (map.get s.asked input.0))
 
 -- why a link doesn't answer an asked one, but for what the peer's handle leads to
 abbrev pub RefusesExchange : {R : Type 0} → ℕ → State R → End → AskedLink → AttachRefusal → Type 0
@@ -54,7 +56,7 @@ RefusesExchange limit s link asked (Link error) = IsOffered s × (test_failed li
 RefusesExchange limit s link asked FrameTooLarge =
     IsOffered s × (test_failed link asked.attach ≡ None) × FitsNoFrame limit link (offered s)
 RefusesExchange limit s link asked HandleInUse = ⊥
-RefusesExchange limit s link asked Memory = IsOffered s
+RefusesExchange limit s link asked Memory = IsOffered s × MayWant (test_failed link asked.attach)
 
 -- a link takes an Attach of the peer, and this is left to be done
 pub record Takes (old : End) (attach : Attach) (attaching : Attaching) (new : End) : Type 0 where

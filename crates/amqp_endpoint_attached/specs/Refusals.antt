@@ -1,5 +1,5 @@
 -- Why a link of an endpoint doesn't attach (part 2, 2.6.3, 2.7.2, 2.7.3).
-use Rattle.std.specs.Prelude.{◌≡◌, ℕ, ◌<◌, ◌≤◌, [], Option, Some, None, option_map, Result, Ok, Err, IsSome}
+use Rattle.std.specs.Prelude.{◌≡◌, ◌⊎◌, ℕ, ◌<◌, ◌≤◌, [], Option, Some, None, option_map, Result, Ok, Err, IsSome}
 use Rattle.std.specs.FinMap as map
 use Rattle.amqp_session_types.specs.declared.handles.OutputHandle.{OutputHandle}
 use Rattle.amqp_session_types.specs.declared.refusals.SessionError.{SessionError}
@@ -51,16 +51,20 @@ abbrev pub outcome : AttachTold → Result Attaching AttachRefusal
 outcome (told.Sender answer) = sender_outcome answer
 outcome (told.Receiver answer) = receiver_outcome answer
 
--- the link refuses the peer's Attach, or there is no memory for it
-abbrev pub RefusesPeer : End → Attach → AttachRefusal → Type 0
-RefusesPeer link attach (Link error) = test_failed link attach ≡ Some error
-RefusesPeer link attach Memory = Unit {0}
-RefusesPeer link attach refusal = ⊥
-
 -- a test tells a list: the filters that the peer doesn't apply
 abbrev pub TellsList : Option LinkError → Type 0
 TellsList (Some (ReceiverAttach (DesiredFilterNotSupported filters))) = Unit {0}
 TellsList failed = ⊥
+
+-- no test fails, or the first that does tells a list: there may be no memory
+abbrev pub MayWant : Option LinkError → Type 0
+MayWant failed = (failed ≡ None) ⊎ TellsList failed
+
+-- the link refuses the peer's Attach, or there is no memory for what it makes of the link, or for a test's list
+abbrev pub RefusesPeer : End → Attach → AttachRefusal → Type 0
+RefusesPeer link attach (Link error) = test_failed link attach ≡ Some error
+RefusesPeer link attach Memory = MayWant (test_failed link attach)
+RefusesPeer link attach refusal = ⊥
 
 -- what is found of the link's tests, of which the first that fails is this: that none fails, its error, or, in place of
 -- a list alone, want of memory for it

@@ -39,7 +39,8 @@ pub struct PreparedAnswer {
 /// It is refused, tested in this order, with `HandleMaxReached` exactly where the handle that is offered is above the
 /// peer's handle-max (part 2, 2.7.2); with `Link` exactly where a test of the link refuses the peer's Attach (part 2,
 /// 2.6.3), with the error of the first that does; with `FrameTooLarge` exactly where its own Attach fits no frame of
-/// `limit` bytes, even without its unsettled deliveries; and with `Memory`.
+/// `limit` bytes, even without its unsettled deliveries; and with `Memory`, in place of none of these but
+/// `FrameTooLarge`, and of `Link` where that tells a list of filters.
 pub fn prepare_answer(
     session: &AskingSession<Numbered<LinkEnd>>,
     alloc: Global,
@@ -93,7 +94,8 @@ fn both<A: Drop, B: Drop, E: Drop>(first: Result<A, E>, second: Result<B, E>) ->
     Ok((first, second?))
 }
 
-/// What the peer's Attach makes of a link at rest. It is refused with the link's own refusal, or with `Memory`.
+/// What the peer's Attach makes of a link at rest. It is refused with the link's own refusal, or with `Memory`, where
+/// the link doesn't refuse it or tells a list of filters.
 #[tactic(auto, using(crate::proofs::Taking::rules))]
 fn prepare(link: &LinkEnd, alloc: Global, attach: &Attach) -> Result<PreparedAttach, AttachRefusal>
     requires { is_at_rest (state_of link.now) ≡ true }

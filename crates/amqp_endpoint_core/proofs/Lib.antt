@@ -9,6 +9,7 @@ pub mod RunLaws
 pub mod SessionLaws
 pub mod WithinLaws
 pub mod CallLaws
+pub mod SessionCalls
 pub mod NoSessionLaws
 pub mod Pullings
 pub mod WorldRuns

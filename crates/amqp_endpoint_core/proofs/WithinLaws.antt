@@ -21,11 +21,6 @@ module _ {S : Type 0} (does : Relations S) (phase : Phase) (limit : Option ℕ) 
     λ un. let wrong : Running ≡ Unconnected = un in absurd (cc),
   )
 
-  -- it stays within each limit
-  pub wait_called : ((most : ℕ) → does.within most s → does.within most new) → WaitWithin does phase limit s
-      → WaitWithin does phase limit new
-  wait_called stay waits = (stay (limit_of limit) waits.0, λ un. stay 512 (waits.1 un))
-
   -- it stays within each limit that a peer may set (part 2, 2.7.1)
   pub wait_least : ((most : ℕ) → 512 ≤ most → does.within most s → does.within most new) → 512 ≤ limit_of limit
       → WaitWithin does phase limit s → WaitWithin does phase limit new

@@ -438,7 +438,8 @@ module _ (link n : ℕ) (own : OutputHandle) where
   other-says deed other old new d reading later r q =
       says-none own reading (pieces_in n own old deed) (handed_by link (told_in deed)) later
       (no-transfer deed other old) (none-handed link (told_in deed) (deed-none deed other old new d))
-      (by-same deed old new (held_in (live_at old.talk.sessions n) own.0) (held_in (live_at new.talk.sessions n) own.0) link
+      (by-same deed old new (held_in (live_at old.talk.sessions n) own.0)
+      (held_in (live_at new.talk.sessions n) own.0) link
       (held_said reading.held) later (deed-goes deed other old new d n own.0)
       (receives-holds old link n own (held_said reading.held) r) (receives-holds new link n own later q))
 

@@ -238,7 +238,8 @@ freed-stays old new handle s =
     }
 
 given-comes : (E : Type 0) (number : ℕ) (old new : LinksIn) (handle : ℕ) (link : Link)
-    → IsFresh E number (held_link (Some link)) → link_at old handle ≡ None → ((h : ℕ) → link_at new h ≡ (if h == handle then Some link else link_at old h))
+    → IsFresh E number (held_link (Some link)) → link_at old handle ≡ None
+    → ((h : ℕ) → link_at new h ≡ (if h == handle then Some link else link_at old h))
     → Each (Comes E number) old new
 given-comes E number old new handle link fresh vacant becomes h = by (eqb_tells h handle)
   where

@@ -182,7 +182,8 @@ module _ (link : ℕ) where
           by y is (inr (inr e)) = i.entered e.none
 
       gone-tells : (deeds : List Deed) (old new : LinkedSessions) (pieces : List Piece) (n h : ℕ)
-          → NeverResumed link deeds → IsIn link old n h → ((x : Part) → held_in (live_at old.talk.sessions n) h ≡ Some (link, x) → ⊥)
+          → NeverResumed link deeds → IsIn link old n h
+          → ((x : Part) → held_in (live_at old.talk.sessions n) h ≡ Some (link, x) → ⊥)
           → Reach link session own old deeds new pieces → (reading : Reading) → Tells reading pieces deeds
       gone-tells [] old new pieces n h never i gone (same, none) reading = tells-nothing reading pieces none
       gone-tells (deed ∷ deeds) old new pieces n h never i gone (mid, first, later, d, by, rest, is) reading =
@@ -253,7 +254,8 @@ module _ (link : ℕ) where
 
       -- before that
       off-tells : (deeds : List Deed) (old new : LinkedSessions) (pieces : List Piece) (n h : ℕ)
-          → NeverResumed link deeds → IsIn link old n h → (IsOn old n h → ⊥) → Reach link session own old deeds new pieces → NoneResumes pieces
+          → NeverResumed link deeds → IsIn link old n h → (IsOn old n h → ⊥)
+          → Reach link session own old deeds new pieces → NoneResumes pieces
           → Tells nothing pieces deeds
       off-tells [] old new pieces n h never i off (same, none) fresh = tells-nothing nothing pieces none
       off-tells (deed ∷ deeds) old new pieces n h never i off (mid, first, later, d, by, rest, is) fresh =
@@ -288,7 +290,8 @@ module _ (link : ℕ) where
 
       -- and before it had a number
       pub unentered-tells : (deeds : List Deed) (old new : LinkedSessions) (pieces : List Piece)
-          → NeverResumed link deeds → IsUnentered link old → Reach link session own old deeds new pieces → NoneResumes pieces → Tells nothing pieces deeds
+          → NeverResumed link deeds → IsUnentered link old → Reach link session own old deeds new pieces
+          → NoneResumes pieces → Tells nothing pieces deeds
       unentered-tells [] old new pieces never u (same, none) fresh = tells-nothing nothing pieces none
       unentered-tells (deed ∷ deeds) old new pieces never u (mid, first, later, d, by, rest, is) fresh =
           let apart : StaysSomewhere old mid link → ⊥ =
@@ -368,7 +371,8 @@ module _ (link : ℕ) where
           | inr (n, h, i) ↦
               let own : OutputHandle = record { 0 = h } in
               let (pieces, all) =
-              reach-from n own deed deeds old mid new d [] (inr (apart, refl)) (reach-in deeds mid new n h never.1 i rest)
+              reach-from n own deed deeds old mid new d [] (inr (apart, refl))
+              (reach-in deeds mid new n h never.1 i rest)
               in
               (n, own, pieces, all)
         ]

@@ -37,7 +37,8 @@ module _ (back_on : BackGoesOn) (left_on : LeftGoesOn) (finished_on : FinishedGo
       → (session : ℕ) × (own : OutputHandle) × (pieces : List Piece)
       × Reach link session own sessions deeds end pieces
   reach-all end deeds never done =
-      reach-some link back_on left_on finished_on deeds sessions end never (new-unentered link sessions settings new) done
+      reach-some link back_on left_on finished_on deeds sessions end never (new-unentered link sessions settings new)
+      done
 
   pub handed-called : (calls : List Call) (told : List Told) (end : State LinkedSessions)
       → Run linked (fresh settings sessions) calls told end → NeverCalledAgain link (calls_done calls told)

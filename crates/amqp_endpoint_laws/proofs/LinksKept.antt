@@ -207,10 +207,11 @@ module _ (P : Links → Type 0) (allows : ℕ → Type 0)
   heard (body.Attach attach) old new links links_new given given_new limit channel frames events (a, g) came =
       elim a.hears
       [ inl t ↦ same links links_new came t.same | inr f ↦ back links links_new came _ f.back ]
-  heard (body.Flow flow) old new links links_new given given_new limit channel frames events (inl t, g) came =
-      heard-flow (session_of t.heard) frames t.mid new links links_new t.leave came
-  heard (body.Flow flow) old new links links_new given given_new limit channel frames events (inr f, g) came =
-      back links links_new came _ f.back
+  heard (body.Flow flow) old new links links_new given given_new limit channel frames events (h, g) came =
+      elim h.hears [
+        | inl t ↦ heard-flow (session_of t.heard) t.first t.mid t.left links links_new t.leave came
+        | inr f ↦ back links links_new came _ f.back
+      ]
   heard (body.Transfer transfer payload) old new links links_new given given_new limit channel frames events
       (inl t) came =
       same links links_new came t.same
@@ -324,7 +325,8 @@ pub have-come : (back_on : BackGoesOn) (left_on : LeftGoesOn) (finished_on : Fin
     → Run linked (fresh_endpoint settings sessions) calls told end → HaveCome end.sessions.links
 have-come back_on left_on finished_on sessions settings calls told end new run =
     run-keeps linked (λ seen tags phase s. HaveCome s.links)
-    (links-keep HaveCome (λ n. Unit {0}) come-on back_on left_on finished_on (λ n. tt)) [] [] (fresh_endpoint settings sessions) end calls told run
+    (links-keep HaveCome (λ n. Unit {0}) come-on back_on left_on finished_on (λ n. tt)) [] []
+    (fresh_endpoint settings sessions) end calls told run
     (record { steps = []; history = ap (λ (s : LinkedSessions). s.links) new.is })
 
 pub are-apart : (links : Links) → HaveCome links → AreApart links.links

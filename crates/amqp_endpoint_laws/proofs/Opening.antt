@@ -11,6 +11,7 @@ use Rattle.amqp_endpoint_model.specs.declared.call.Call.{Call}
 use Rattle.amqp_endpoint_model.specs.declared.call.Call.TheVariants as call
 use Rattle.amqp_endpoint_model.specs.declared.event.Event.{Event}
 use Rattle.amqp_endpoint_link_calls.specs.Naming.{name_of}
+use Rattle.amqp_endpoint.specs.Attaching.{LinkAttached}
 use Rattle.amqp_endpoint.specs.Does.{linked}
 use Rattle.amqp_endpoint.specs.declared.linked.LinkedSessions.{LinkedSessions}
 use Rattle.amqp_endpoint_laws.specs.Attachments.{attached_in, gone_in, named_if}
@@ -37,27 +38,28 @@ module _ (old new : LinkedSessions) (number link : ℕ) where
   moved deed n l in_it is o =
       subst (λ (m : ℕ). Opened old new deed m link) in_it (subst (λ (k : ℕ). Opened old new deed n k) is o)
 
+  -- a new link does
+  newly : (deed : Deed) (limit n one : ℕ) (it : End) (events : List Event)
+      → LinkAttached old.talk old.links limit n it one events (gone_in deed) new.talk new.links
+      → attached_in old deed ≡ name_of it ∷ [] → Opened old new deed n one
+  newly deed limit n one it events attached named =
+      record {
+        limit = limit;
+        it = it;
+        events = events;
+        placed = is-new old.talk new.talk old.links new.links limit n it one events (gone_in deed) attached;
+        named = named;
+      }
+
   opened-by : (it : Call) (answer : Said) (limit : ℕ) (frames : List SessionFrame)
       → IsDeed linked old (Does limit it answer frames) new → OpensBy it answer number link
       → Opened old new (Does limit it answer frames) number link
   opened-by (call.AttachSender n its) (attaching one events) limit frames d (in_it, is) =
-      moved (Does limit (call.AttachSender n its) (attaching one events) frames) n one in_it is
-      (record {
-        limit = limit;
-        it = sender_by its;
-        events = events;
-        placed = is-new old.talk new.talk old.links new.links limit n (sender_by its) one events frames d.0;
-        named = refl;
-      })
+      let deed = Does limit (call.AttachSender n its) (attaching one events) frames in
+      moved deed n one in_it is (newly deed limit n one (sender_by its) events d.0 refl)
   opened-by (call.AttachReceiver n its) (attaching one events) limit frames d (in_it, is) =
-      moved (Does limit (call.AttachReceiver n its) (attaching one events) frames) n one in_it is
-      (record {
-        limit = limit;
-        it = receiver_by its;
-        events = events;
-        placed = is-new old.talk new.talk old.links new.links limit n (receiver_by its) one events frames d.0;
-        named = refl;
-      })
+      let deed = Does limit (call.AttachReceiver n its) (attaching one events) frames in
+      moved deed n one in_it is (newly deed limit n one (receiver_by its) events d.0 refl)
   opened-by (call.Resume one n) (attaching answered events) limit frames d (in_it, is) =
       moved (Does limit (call.Resume one n) (attaching answered events) frames) n one in_it is
       (record {

@@ -23,7 +23,8 @@ use Rattle.amqp_endpoint.specs.Attaching.{LinkAttached, LinkResumed}
 use Rattle.amqp_endpoint_laws.proofs.Parted.{entered, holder}
 
 -- what it hands out
-pub record GoesOut (old : Talk) (limit session : ℕ) (link : End) (placed : Placed) (out : List SessionFrame) (new : Talk)
+pub record GoesOut (old : Talk) (limit session : ℕ) (link : End) (placed : Placed) (out : List SessionFrame)
+    (new : Talk)
     : Type 0 where
   pub frames : List SessionFrame
   pub attaches : AttachesIn old [] limit session link placed new frames

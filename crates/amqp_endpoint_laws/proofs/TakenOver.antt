@@ -386,7 +386,8 @@ module _ (back_on : BackGoesOn) (left_on : LeftGoesOn) (finished_on : FinishedGo
         by (false, v) there kept = kept refl ∙ i.empty number own.0 v there
 
     comes-on : (deeds : List Deed) (s end : LinkedSessions) (ps : List Passing) (later : Option Delivery)
-        → NeverResumed link deeds → Reached s → IsHere s → KeepsName link name (slot_at s.links link) → (IsOn link s number own.0 → ⊥)
+        → NeverResumed link deeds → Reached s → IsHere s → KeepsName link name (slot_at s.links link)
+        → (IsOn link s number own.0 → ⊥)
         → PassesIn number s deeds end ps → IsReceiving end link number own later → ComesOn name deeds end ps
     comes-on [] s end ps later never r i k off (same, none) e =
         absurd

@@ -27,8 +27,9 @@ pub record IsBehind (limit : ℕ) (s : Linked) (closing : Closing) (taken : Prep
   pub none : behind.events.items ≡ []
   pub bare : All IsBare behind.ready.giving.batches.items
 
--- what a link goes by that answers the one which the peer asks for with this handle in the session with this number: what
--- it says under the handle that is offered there, and what its Attach leaves to be done; and the session has room for it
+-- what a link goes by that answers the one which the peer asks for with this handle in the session with this number:
+-- what it says under the handle that is offered there, and what its Attach leaves to be done; and the session has
+-- room for it
 pub record IsAnswerReady (limit : ℕ) (before ready : Linked) (link : End) (input : InputHandle) (session : ℕ)
     (made : AnswerReady) (len capacity : ℕ) : Type 0 where
   pub prepared : IsPrepared limit before link input made.prepared

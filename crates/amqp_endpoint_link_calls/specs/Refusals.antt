@@ -18,7 +18,8 @@ use Rattle.amqp_endpoint_attached.specs.declared.refusal.AttachRefusal.{AttachRe
 use Rattle.amqp_endpoint_attached.specs.declared.refusal.AttachRefusal.TheVariants as why
 use Rattle.amqp_endpoint_conversation.specs.Ending.{IsMapped}
 use Rattle.amqp_endpoint_model.specs.declared.error.EndpointError.{EndpointError}
-use Rattle.amqp_endpoint_model.specs.declared.error.EndpointError.TheVariants.{UnknownLink, UnknownSession, IllegalState}
+use Rattle.amqp_endpoint_model.specs.declared.error.EndpointError.TheVariants.{UnknownLink, UnknownSession}
+use Rattle.amqp_endpoint_model.specs.declared.error.EndpointError.TheVariants.{IllegalState}
 use Rattle.amqp_endpoint_model.specs.declared.error.EndpointError.TheVariants.{DuplicatedLinkName, HandleMaxReached}
 use Rattle.amqp_endpoint_model.specs.declared.error.EndpointError.TheVariants.{FrameTooLarge, Memory, Session, Link}
 use Rattle.amqp_endpoint_tables.specs.LinkState.{IsNewName, name_at, place_at as link_place}
@@ -176,8 +177,8 @@ pub record OffersNone (talk : LinkTalk) (session : ℕ) : Type 0 where
   pub live : live_at talk.sessions session ≡ Some before
   pub above : (before.value).session.handle_max < (before.value).session.offered
 
--- why the link with this number doesn't attach again in the session with that one: no link has the number; no session has
--- that one; the session isn't mapped, or the link isn't at rest; the handle that is offered is above the peer's
+-- why the link with this number doesn't attach again in the session with that one: no link has the number; no session
+-- has that one; the session isn't mapped, or the link isn't at rest; the handle that is offered is above the peer's
 -- handle-max; or its session refuses it, as any that attaches
 abbrev pub BarsResuming : ℕ → LinkTalk → LinksBy → ℕ → ℕ → EndpointError → Type 0
 BarsResuming limit talk links number session UnknownLink = link_place links number ≡ None

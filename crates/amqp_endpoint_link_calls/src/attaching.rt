@@ -10,7 +10,7 @@ use crate::LinkTalk;
 use crate::entering::{enter, prepare};
 use crate::looking::attach_refusal;
 use crate::placed::Placed;
-use crate::placing::attach_new;
+use crate::placing::{Coming, attach_new};
 use amqp_endpoint_attached::{receiver, sender};
 use amqp_endpoint_model::{EndpointError, LinkSettings};
 use amqp_endpoint_tables::Links;
@@ -59,7 +59,12 @@ pub fn attach(
 {
     let room = links.room();
     let name = prepare(talk, links, session, &link.base().name)?;
-    let placed = attach_new(talk, alloc, limit, session, links.next_number(), link, out);
+    let coming = Coming {
+        number: links.next_number(),
+        session,
+        link,
+    };
+    let placed = attach_new(talk, alloc, limit, coming, out);
     enter(links, room, name, &placed);
     placed
 }

@@ -35,7 +35,7 @@ pub use detaching::detach;
 pub use disposing::{dispose, dispose_all};
 pub use holding::{LinkTalk, holder};
 pub use placed::Placed;
-pub use resuming::resume;
+pub use resuming::{Again, resume};
 pub use seeing::credit;
 pub use sending::{send, send_refusal};
 pub use turns::{held_back, waiting};

@@ -40,28 +40,36 @@ use amqp_session_types::{InputHandle, SessionError};
 use std::alloc::{AllocError, Global};
 use std::collections::VecDeque;
 
-/// A link that is new attaches in the session with this number, which has begun, and is to have that number of its own.
-/// Where it is refused it is given up.
+/// A link that attaches, and where.
+#[derive(Drop)]
+pub(crate) struct Coming {
+    /// The number that it is to have of its own.
+    pub number: u64,
+    /// The number of its session.
+    pub session: u64,
+    /// The link.
+    pub link: LinkEnd,
+}
+
+/// A link that is new attaches in its session, which is mapped. Where it is refused it is given up.
 pub(crate) fn attach_new(
     talk: &mut LinkTalk,
     alloc: Global,
     limit: u32,
-    session: u64,
-    number: u64,
-    link: LinkEnd,
+    coming: Coming,
     out: &mut VecDeque<SessionFrame>,
 ) -> Result<Placed, EndpointError>
-    requires mapped { IsMapped talk.old session }
-    requires at_rest { is_at_rest (state_of link) ≡ true }
+    requires mapped { IsMapped talk.old coming.session }
+    requires at_rest { is_at_rest (state_of coming.link) ≡ true }
     ensures ok { IfOk result (λ placed.
-        AttachesIn talk.old out.old.items limit session link placed talk.new out.new.items) }
-    ensures numbered { IfOk result (λ placed. placed.link ≡ number) }
-    ensures err { IfErr result (BarsIn limit talk.old session link) }
+        AttachesIn talk.old out.old.items limit coming.session coming.link placed talk.new out.new.items) }
+    ensures numbered { IfOk result (λ placed. placed.link ≡ coming.number) }
+    ensures err { IfErr result (BarsIn limit talk.old coming.session coming.link) }
     ensures kept { OnErr result ((talk.new ≡ talk.old) × (out.new.items ≡ out.old.items)) }
     ensures goes { 512 ≤ limit → Goes limit talk.old talk.new out.old.items out.new.items }
     ensures rests { Rests talk.old talk.new out.old.items out.new.items }
 {
-    match attach_live(talk, alloc, limit, session, number, link, out) {
+    match attach_live(talk, alloc, limit, coming, out) {
         Ok(placed) => Ok(placed),
         Err(refused) => Err(given_up(refused)),
     }
@@ -75,30 +83,27 @@ fn given_up(refused: Unattached) -> EndpointError
     of_refusal(refusal)
 }
 
-/// A link, which is at rest, attaches in the session with this number, which has begun, and is to have that number of
-/// its own. Where it is refused it comes back, as it was.
+/// A link, which is at rest, attaches in its session, which is mapped. Where it is refused it comes back, as it was.
 pub(crate) fn attach_live(
     talk: &mut LinkTalk,
     alloc: Global,
     limit: u32,
-    session: u64,
-    number: u64,
-    link: LinkEnd,
+    coming: Coming,
     out: &mut VecDeque<SessionFrame>,
 ) -> Result<Placed, Unattached>
-    requires mapped { IsMapped talk.old session }
-    requires at_rest { is_at_rest (state_of link) ≡ true }
+    requires mapped { IsMapped talk.old coming.session }
+    requires at_rest { is_at_rest (state_of coming.link) ≡ true }
     ensures ok { IfOk result (λ placed.
-        AttachesIn talk.old out.old.items limit session link placed talk.new out.new.items) }
-    ensures numbered { IfOk result (λ placed. placed.link ≡ number) }
+        AttachesIn talk.old out.old.items limit coming.session coming.link placed talk.new out.new.items) }
+    ensures numbered { IfOk result (λ placed. placed.link ≡ coming.number) }
     ensures err { IfErr result (λ refused.
-        RefusesIn limit talk.old session link refused.refusal × (refused.link ≡ link)) }
+        RefusesIn limit talk.old coming.session coming.link refused.refusal × (refused.link ≡ coming.link)) }
     ensures kept { OnErr result ((talk.new ≡ talk.old) × (out.new.items ≡ out.old.items)) }
     ensures goes { 512 ≤ limit → Goes limit talk.old talk.new out.old.items out.new.items }
     ensures rests { Rests talk.old talk.new out.old.items out.new.items }
 {
     let from = out.len();
-    let placed = attach_lent(talk, alloc, limit, session, number, link, out);
+    let placed = attach_lent(talk, alloc, limit, coming, out);
     frames_are_read(out, from);
     placed
 }
@@ -108,25 +113,23 @@ fn attach_lent(
     talk: &mut LinkTalk,
     alloc: Global,
     limit: u32,
-    session: u64,
-    number: u64,
-    link: LinkEnd,
+    coming: Coming,
     out: &mut VecDeque<SessionFrame>,
 ) -> Result<Placed, Unattached>
-    requires mapped { IsMapped talk.old session }
-    requires at_rest { is_at_rest (state_of link) ≡ true }
+    requires mapped { IsMapped talk.old coming.session }
+    requires at_rest { is_at_rest (state_of coming.link) ≡ true }
     ensures ok { IfOk result (λ placed.
-        AttachesIn talk.old out.old.items limit session link placed talk.new out.new.items) }
-    ensures numbered { IfOk result (λ placed. placed.link ≡ number) }
+        AttachesIn talk.old out.old.items limit coming.session coming.link placed talk.new out.new.items) }
+    ensures numbered { IfOk result (λ placed. placed.link ≡ coming.number) }
     ensures short { IfOk result (λ placed. placed.handle.0 < 2 ^ 32) }
     ensures err { IfErr result (λ refused.
-        RefusesIn limit talk.old session link refused.refusal × (refused.link ≡ link)) }
+        RefusesIn limit talk.old coming.session coming.link refused.refusal × (refused.link ≡ coming.link)) }
     ensures kept { OnErr result ((talk.new ≡ talk.old) × (out.new.items ≡ out.old.items)) }
 {
-    let Some(live) = talk.sessions.live_mut(session) else {
+    let Some(live) = talk.sessions.live_mut(coming.session) else {
         unreachable!()
     };
-    attach_in(live, alloc, limit, session, number, link, out)
+    attach_in(live, alloc, limit, coming, out)
 }
 
 /// A link, which is at rest, attaches in this session: of itself, or in answer to the one that the peer asks for.
@@ -134,23 +137,21 @@ fn attach_in(
     live: &mut LinkSession,
     alloc: Global,
     limit: u32,
-    session: u64,
-    number: u64,
-    link: LinkEnd,
+    coming: Coming,
     out: &mut VecDeque<SessionFrame>,
 ) -> Result<Placed, Unattached>
-    requires at_rest { is_at_rest (state_of link) ≡ true }
+    requires at_rest { is_at_rest (state_of coming.link) ≡ true }
     ensures ok { IfOk result (λ placed.
-        AttachesOne live.old out.old.items limit link placed live.new out.new.items) }
-    ensures placed { IfOk result (λ placed. (placed.session ≡ session) × (placed.link ≡ number)) }
+        AttachesOne live.old out.old.items limit coming.link placed live.new out.new.items) }
+    ensures placed { IfOk result (λ placed. (placed.session ≡ coming.session) × (placed.link ≡ coming.number)) }
     ensures short { IfOk result (λ placed. placed.handle.0 < 2 ^ 32) }
     ensures err { IfErr result (λ refused.
-        RefusesOne limit live.old link refused.refusal × (refused.link ≡ link)) }
+        RefusesOne limit live.old coming.link refused.refusal × (refused.link ≡ coming.link)) }
     ensures kept { OnErr result ((live.new ≡ live.old) × (out.new.items ≡ out.old.items)) }
 {
-    match met(&live.asked, &link) {
-        Some(input) => answer_asked(live, alloc, limit, session, number, link, input, out),
-        None => attach_own(live, alloc, limit, session, number, link, out),
+    match met(&live.asked, &coming.link) {
+        Some(input) => answer_asked(live, alloc, limit, coming, input, out),
+        None => attach_own(live, alloc, limit, coming, out),
     }
 }
 
@@ -159,29 +160,28 @@ fn answer_asked(
     live: &mut LinkSession,
     alloc: Global,
     limit: u32,
-    session: u64,
-    number: u64,
-    link: LinkEnd,
+    coming: Coming,
     input: InputHandle,
     out: &mut VecDeque<SessionFrame>,
 ) -> Result<Placed, Unattached>
     requires asked { IsSome (map.get live.old.asked input.0) }
-    requires at_rest { is_at_rest (state_of link) ≡ true }
-    ensures ok { IfOk result (λ placed. AttachedBy (Some input) live.old out.old.items limit link placed live.new
-        out.new.items) }
-    ensures placed { IfOk result (λ placed. (placed.session ≡ session) × (placed.link ≡ number)) }
+    requires at_rest { is_at_rest (state_of coming.link) ≡ true }
+    ensures ok { IfOk result (λ placed. AttachedBy (Some input) live.old out.old.items limit coming.link placed
+        live.new out.new.items) }
+    ensures placed { IfOk result (λ placed. (placed.session ≡ coming.session) × (placed.link ≡ coming.number)) }
     ensures short { IfOk result (λ placed. placed.handle.0 < 2 ^ 32) }
     ensures err { IfErr result (λ refused.
-        RefusesAnswer limit live.old link input refused.refusal × (refused.link ≡ link)) }
+        RefusesAnswer limit live.old coming.link input refused.refusal × (refused.link ≡ coming.link)) }
     ensures kept { OnErr result ((live.new ≡ live.old) × (out.new.items ≡ out.old.items)) }
 {
     let room = live.session.transfers_room();
     let AnswerReady { prepared, behind } = match make_answer(
-        live, alloc, limit, session, &link, input, out,
+        live, alloc, limit, &coming, input, out,
     ) {
         Ok(ready) => ready,
-        Err(refusal) => return Err(Unattached { refusal, link }),
+        Err(refusal) => return Err(unattached(coming, refusal)),
     };
+    let Coming { number, link, .. } = coming;
     match answer(live, alloc, number, link, input, prepared, out) {
         Ok(answered) => Ok(go_on(live, alloc, number, answered, behind, out)),
         Err(refused) => {
@@ -189,6 +189,14 @@ fn answer_asked(
             Err(refused)
         }
     }
+}
+
+/// A link that is refused so comes back.
+fn unattached(coming: Coming, refusal: AttachRefusal) -> Unattached
+    ensures { (result.refusal ≡ refusal) × (result.link ≡ coming.link) }
+{
+    let Coming { link, .. } = coming;
+    Unattached { refusal, link }
 }
 
 /// What a link goes by that answers an asked one, made ready before it does.
@@ -200,29 +208,29 @@ struct AnswerReady {
     behind: Behind,
 }
 
-/// What this link goes by that answers the one which the peer asks for with this handle in the session with that number,
-/// and room for all of it. Of the session nothing changes but the room for transfers.
+/// What this link goes by that answers the one which the peer asks for with this handle in the session with that
+/// number, and room for all of it. Of the session nothing changes but the room for transfers.
 fn make_answer(
     live: &mut LinkSession,
     alloc: Global,
     limit: u32,
-    session: u64,
-    link: &LinkEnd,
+    coming: &Coming,
     input: InputHandle,
     out: &mut VecDeque<SessionFrame>,
 ) -> Result<AnswerReady, AttachRefusal>
     requires asked { IsSome (map.get live.old.asked input.0) }
-    requires at_rest { is_at_rest (state_of link.now) ≡ true }
-    ensures ok { IfOk result (λ ready. IsAnswerReady limit live.old live.new link.now input session ready
-        (deque_len out.new + 1) (deque_capacity out.new)) }
-    ensures err { IfErr result (RefusesAnswer limit live.old link.now input) }
+    requires at_rest { is_at_rest (state_of coming.now.link) ≡ true }
+    ensures ok { IfOk result (λ ready. IsAnswerReady limit live.old live.new coming.now.link input
+        coming.now.session ready (deque_len out.new + 1) (deque_capacity out.new)) }
+    ensures err { IfErr result (RefusesAnswer limit live.old coming.now.link input) }
     ensures kept { OnErr result (live.new ≡ live.old) }
     ensures out { out.new.items ≡ out.old.items }
 {
+    let link = &coming.link;
     let prepared = prepare_answer(live, alloc, limit, link, input)?;
     let handle = offered(&live.session)?;
     handle_is_short(handle);
-    let closing = make_closing(live, alloc, session, handle, open_count(link))?;
+    let closing = make_closing(live, alloc, coming.session, handle, open_count(link))?;
     let behind = make_behind(live, alloc, limit, closing, &prepared.taken, out)?;
     Ok(AnswerReady { prepared, behind })
 }
@@ -310,20 +318,23 @@ fn attach_own(
     live: &mut LinkSession,
     alloc: Global,
     limit: u32,
-    session: u64,
-    number: u64,
-    link: LinkEnd,
+    coming: Coming,
     out: &mut VecDeque<SessionFrame>,
 ) -> Result<Placed, Unattached>
-    requires at_rest { is_at_rest (state_of link) ≡ true }
-    ensures ok { IfOk result (λ placed. AttachedBy None live.old out.old.items limit link placed live.new
+    requires at_rest { is_at_rest (state_of coming.link) ≡ true }
+    ensures ok { IfOk result (λ placed. AttachedBy None live.old out.old.items limit coming.link placed live.new
         out.new.items) }
-    ensures placed { IfOk result (λ placed. (placed.session ≡ session) × (placed.link ≡ number)) }
+    ensures placed { IfOk result (λ placed. (placed.session ≡ coming.session) × (placed.link ≡ coming.number)) }
     ensures short { IfOk result (λ placed. placed.handle.0 < 2 ^ 32) }
     ensures err { IfErr result (λ refused.
-        RefusesAttach limit live.old.session link refused.refusal × (refused.link ≡ link)) }
+        RefusesAttach limit live.old.session coming.link refused.refusal × (refused.link ≡ coming.link)) }
     ensures kept { OnErr result ((live.new ≡ live.old) × (out.new.items ≡ out.old.items)) }
 {
+    let Coming {
+        number,
+        session,
+        link,
+    } = coming;
     match attach(live, alloc, limit, number, link, out) {
         Ok(handle) => {
             handle_is_short(handle);

@@ -12,7 +12,7 @@ ghost use Rattle.amqp_endpoint_link_calls.specs.Refusals.{BarsResuming, OffersIn
 
 use crate::LinkTalk;
 use crate::placed::Placed;
-use crate::placing::{attach_live, of_refusal};
+use crate::placing::{Coming, attach_live, of_refusal};
 use amqp_endpoint_attached::{Unattached, offered};
 use amqp_endpoint_model::EndpointError;
 use amqp_endpoint_tables::{LinkPlace, Links};
@@ -23,59 +23,76 @@ use amqp_session_types::OutputHandle;
 use std::alloc::Global;
 use std::collections::VecDeque;
 
+/// Which link attaches again, and where.
+#[derive(Clone, Copy, Debug, PartialEq, Eq)]
+pub struct Again {
+    /// The number of the link.
+    pub link: u64,
+    /// The number of the session.
+    pub session: u64,
+}
+
 /// Attaches the link with this number again, which is at rest, in the session with that number (part 2, 2.6.3). The
 /// link keeps its number, and the session holds it under the handle that it offers. Its own Attach is handed out; it
 /// lists as many of the link's unsettled deliveries as a frame of `limit` bytes holds (part 2, 2.6.13). Where the peer
 /// asks there for a link of its name, and has the other end of it, the link answers that, and what comes of it is as
 /// `attach` says. What is handed out fits a `limit` of 512 or more.
 ///
-/// It is refused, tested in this order, with `UnknownLink` exactly where no link has the number; with `UnknownSession`
-/// exactly where no session has that number; with `IllegalState` exactly where the session isn't mapped (part 2,
-/// 2.5.5), or the link isn't at rest; with `HandleMaxReached` exactly where the handle that is offered is above the
-/// peer's handle-max (part 2, 2.7.2); with `Link` exactly where a test of the link refuses the Attach of the one that it
-/// answers, with the error of the first that does; with `FrameTooLarge` exactly where its own Attach fits no frame of
-/// `limit` bytes, even without its unsettled deliveries; and with `Memory`, which may stand in place of `Link` and
-/// `FrameTooLarge`. It is refused with `Session(HandleInUse)` where a link of the session has the handle of the one that
-/// it answers (part 2, 2.8.17): none has in a session whose links came by frames and calls. Nothing changes then: the
-/// link is at rest, as it was.
+/// It is refused, tested in this order, with `UnknownLink` exactly where no link has the number; with
+/// `UnknownSession` exactly where no session has that number; with `IllegalState` exactly where the session isn't
+/// mapped (part 2, 2.5.5), or the link isn't at rest; with `HandleMaxReached` exactly where the handle that is
+/// offered is above the peer's handle-max (part 2, 2.7.2); with `Link` exactly where a test of the link refuses the
+/// Attach of the one that it answers, with the error of the first that does; with `FrameTooLarge` exactly where its
+/// own Attach fits no frame of `limit` bytes, even without its unsettled deliveries; and with `Memory`, in place of
+/// none of these but `FrameTooLarge`, and of `Link` where that tells a list of filters. It is refused with
+/// `Session(HandleInUse)` where a link of the session has the handle of the one that it answers (part 2, 2.8.17):
+/// none has in a session whose links came by frames and calls. Nothing changes then: the link is at rest, as it was.
 pub fn resume(
     talk: &mut LinkTalk,
     links: &mut Links<LinkEnd>,
     alloc: Global,
     limit: u32,
-    link: u64,
-    session: u64,
+    again: Again,
     out: &mut VecDeque<SessionFrame>,
 ) -> Result<Placed, EndpointError>
-    ensures ok { IfOk result (λ placed. LinkResumes talk.old links.old out.old.items limit link session placed talk.new
-        links.new out.new.items) }
-    ensures err { IfErr result (BarsResuming limit talk.old links.old link session) }
+    ensures ok { IfOk result (λ placed. LinkResumes talk.old links.old out.old.items limit again.link again.session
+        placed talk.new links.new out.new.items) }
+    ensures err { IfErr result (BarsResuming limit talk.old links.old again.link again.session) }
     ensures kept { OnErr result
         ((talk.new ≡ talk.old) × (links.new ≡ links.old) × (out.new.items ≡ out.old.items)) }
     ensures goes { 512 ≤ limit → Goes limit talk.old talk.new out.old.items out.new.items }
     ensures rests { Rests talk.old talk.new out.old.items out.new.items }
 {
-    let handle = resumable(talk, links, link, session)?;
-    let Some(end) = links.hold(link, session, handle) else {
+    let handle = resumable(talk, links, again)?;
+    let Again {
+        link: number,
+        session,
+    } = again;
+    let Some(link) = links.hold(number, session, handle) else {
         unreachable!()
     };
-    match attach_live(talk, alloc, limit, session, link, end, out) {
+    let coming = Coming {
+        number,
+        session,
+        link,
+    };
+    match attach_live(talk, alloc, limit, coming, out) {
         Ok(placed) => Ok(placed),
-        Err(refused) => Err(rest_again(links, link, refused)),
+        Err(refused) => Err(rest_again(links, number, refused)),
     }
 }
 
-/// The handle that the session with this number offers, where the link with that number may attach there again.
+/// The handle that the session offers in which the link may attach again.
 fn resumable(
     talk: &LinkTalk,
     links: &Links<LinkEnd>,
-    link: u64,
-    session: u64,
+    again: Again,
 ) -> Result<OutputHandle, EndpointError>
-    ensures ok { IfOk result (OffersIn talk.now session) }
-    ensures may { OnOk result ((end : End) × MayResume talk.now links.now link session end) }
-    ensures err { (limit : ℕ) → IfErr result (BarsResuming limit talk.now links.now link session) }
+    ensures ok { IfOk result (OffersIn talk.now again.session) }
+    ensures may { OnOk result ((end : End) × MayResume talk.now links.now again.link again.session end) }
+    ensures err { (limit : ℕ) → IfErr result (BarsResuming limit talk.now links.now again.link again.session) }
 {
+    let Again { link, session } = again;
     let Some(place) = links.place(link) else {
         return Err(EndpointError::UnknownLink);
     };

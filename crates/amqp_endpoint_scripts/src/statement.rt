@@ -4,7 +4,8 @@ ghost use Rattle.std.specs.List.{list_any};
 ghost use Rattle.amqp_endpoint_scripts.specs.Digits.{number_under};
 ghost use Rattle.amqp_endpoint_scripts.specs.Script.{bytes_of, call_at, call_of, call_with, call_with_three, count_of};
 ghost use Rattle.amqp_endpoint_scripts.specs.Script.{call_with_two, disposal_of, end_of, grant_of, move_from, parts_at};
-ghost use Rattle.amqp_endpoint_scripts.specs.Script.{receiver_at, resume_of, send_of, sender_at, settings_at, settings_of, statement};
+ghost use Rattle.amqp_endpoint_scripts.specs.Script.{receiver_at, resume_of, send_of, sender_at, settings_at};
+ghost use Rattle.amqp_endpoint_scripts.specs.Script.{settings_of, statement};
 ghost use Rattle.amqp_endpoint_scripts.specs.Script.{three_said, word_said, words_said};
 ghost use Rattle.amqp_endpoint_scripts.specs.Terms.{sender_settings};
 

@@ -1,5 +1,5 @@
 -- What the peer's Attach makes of an end of a link, before it is taken: part 2, 2.6.3 and 2.6.13.
-use Rattle.std.specs.Prelude.{[], Result, Ok, Err}
+use Rattle.std.specs.Prelude.{[], Result, Ok, Err, IsOk}
 use Rattle.amqp_session_performatives.specs.declared.attach.Attach.{Attach}
 use Rattle.amqp_link_types.specs.declared.attaching.ReceiverAttachError.{ReceiverAttachError}
 use Rattle.amqp_link_types.specs.declared.attaching.SenderAttachError.{SenderAttachError}
@@ -25,6 +25,11 @@ receiver_planned (Err error) = Err (ReceiverAttach error)
 abbrev pub attach_planned : End → Attach → Result PreparedAttach LinkError
 attach_planned (Sender s) attach = sender_planned (sender.attach_planned s attach)
 attach_planned (Receiver r) attach = receiver_planned (receiver.attach_planned r attach)
+
+-- there may be no memory for it, or, at a receiving end, for the list that a test tells
+abbrev pub MayWantMemory : End → Attach → Type 0
+MayWantMemory (Sender s) attach = IsOk (sender.attach_planned s attach)
+MayWantMemory (Receiver r) attach = receiver.MayWantMemory (receiver.attach_planned r attach)
 
 -- it was planned for an end of this kind
 abbrev pub IsFor : End → PreparedAttach → Type 0

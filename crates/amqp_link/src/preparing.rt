@@ -1,7 +1,8 @@
 //! What the peer's Attach makes of an end of a link, made ready before anything changes (part 2, 2.6.3 and 2.6.13).
-ghost use Rattle.std.specs.Prelude.{◌≡◌, IfOk};
-ghost use Rattle.amqp_link.specs.Preparing.{IsFor, attach_planned, carried_out, left_by, receiver_planned};
-ghost use Rattle.amqp_link.specs.Preparing.{sender_planned};
+ghost use Rattle.std.specs.Prelude.{◌≡◌, IfErr, IfOk, IsOk};
+ghost use Rattle.amqp_link.specs.Preparing.{IsFor, MayWantMemory, attach_planned, carried_out, left_by};
+ghost use Rattle.amqp_link.specs.Preparing.{receiver_planned, sender_planned};
+ghost use Rattle.amqp_link_receiver.specs.Attaching.{MayWantMemory as ReceiverMayWant};
 ghost use Rattle.amqp_link_receiver.specs.Attaching.{attach_planned as planned_for_receiver};
 ghost use Rattle.amqp_link_sender.specs.Attaching.{attach_planned as planned_for_sender};
 
@@ -23,16 +24,18 @@ pub enum PreparedAttach {
 }
 
 impl LinkEnd {
-    /// What the peer's Attach makes of the link is made ready, or the answer is why it is refused: where the link's state
-    /// doesn't allow it, or else by the first test that it fails. Nothing changes yet.
+    /// What the peer's Attach makes of the link is made ready, or the answer is why it is refused: where the link's
+    /// state doesn't allow it, or else by the first test that it fails. Nothing changes yet.
     ///
-    /// Errors: want of memory alone.
+    /// Errors: want of memory alone, where the Attach isn't refused, or where it is for filters that the peer doesn't
+    /// apply, of which there is a list.
     pub fn prepare_attach(
         &self,
         alloc: Global,
         attach: &Attach,
     ) -> Result<Result<PreparedAttach, LinkError>, AllocError>
-        ensures { IfOk result (λ decided. decided ≡ attach_planned self.now attach.now) }
+        ensures ok { IfOk result (λ decided. decided ≡ attach_planned self.now attach.now) }
+        ensures err { IfErr result (λ _. MayWantMemory self.now attach.now) }
     {
         match &self.end {
             End::Sender(link) => prepare_sender(link, alloc, attach),
@@ -64,7 +67,8 @@ fn prepare_sender(
     alloc: Global,
     attach: &Attach,
 ) -> Result<Result<PreparedAttach, LinkError>, AllocError>
-    ensures { IfOk result (λ decided. decided ≡ sender_planned (planned_for_sender link.now attach.now)) }
+    ensures ok { IfOk result (λ decided. decided ≡ sender_planned (planned_for_sender link.now attach.now)) }
+    ensures err { IfErr result (λ _. IsOk (planned_for_sender link.now attach.now)) }
 {
     match link.prepare_attach(alloc, attach)? {
         Ok(prepared) => Ok(Ok(PreparedAttach::Sender(prepared))),
@@ -78,7 +82,8 @@ fn prepare_receiver(
     alloc: Global,
     attach: &Attach,
 ) -> Result<Result<PreparedAttach, LinkError>, AllocError>
-    ensures { IfOk result (λ decided. decided ≡ receiver_planned (planned_for_receiver link.now attach.now)) }
+    ensures ok { IfOk result (λ decided. decided ≡ receiver_planned (planned_for_receiver link.now attach.now)) }
+    ensures err { IfErr result (λ _. ReceiverMayWant (planned_for_receiver link.now attach.now)) }
 {
     match link.prepare_attach(alloc, attach)? {
         Ok(prepared) => Ok(Ok(PreparedAttach::Receiver(prepared))),

@@ -55,15 +55,16 @@ impl<S: SessionRelay> Endpoint<S> {
         Ok(attaching)
     }
 
-    /// Attaches the link with this number again, which is at rest, in the session with that number: its Attach is queued,
-    /// and lists what it kept unsettled (part 2, 2.6.3, 2.6.13, 2.7.3). Answers the link's number, and what comes of it at
-    /// once, as `attach_sender` does.
+    /// Attaches the link with this number again, which is at rest, in the session with that number: its Attach is
+    /// queued, and lists what it kept unsettled (part 2, 2.6.3, 2.6.13, 2.7.3). Answers the link's number, and what
+    /// comes of it at once, as `attach_sender` does.
     ///
     /// `UnknownLink` where no link has the number, then `UnknownSession` where no session has that number, then
-    /// `IllegalState` where it isn't mapped or the link isn't at rest, then `HandleMaxReached` where no handle is left that
-    /// the peer takes (part 2, 2.7.2), then `Link` where the peer's Attach can't be answered, then `FrameTooLarge` where
-    /// the Attach is longer than the peer takes. `Memory` where there is no memory, in place of none of these but `Link`
-    /// and `FrameTooLarge`. A refusal changes nothing: the link is at rest, as it was.
+    /// `IllegalState` where it isn't mapped or the link isn't at rest, then `HandleMaxReached` where no handle is
+    /// left that the peer takes (part 2, 2.7.2), then `Link` where the peer's Attach can't be answered, then
+    /// `FrameTooLarge` where the Attach is longer than the peer takes. `Memory` where there is no memory, in place of
+    /// none of these but `FrameTooLarge`, and `Link` where that lists filters. A refusal changes nothing: the link is
+    /// at rest, as it was.
     pub fn resume(&mut self, link: u64, session: u64) -> Result<Attaching, EndpointError>
         ensures ok { IfOk result (λ a. SessionsDo S.does self.old (Call.Resume link session)
             (attaching a.link a.events.items) self.new) }

@@ -7,30 +7,30 @@ use Rattle.amqp_endpoint_link_calls.proofs.placing.answer_asked.Goals as goal
 pub answer-requires-clause-taken : goal.answer-requires-clause-taken
 answer-requires-clause-taken c =
     let made = c.in-Ok.ensures.ok in
-    taken-still c.args.limit c.args.live.now c.make_answer.new.live made.room c.args.link c.args.input
+    taken-still c.args.limit c.args.live.now c.make_answer.new.live made.room c.args.coming.link c.args.input
     c.in-Ok.ready.prepared made.prepared
 
 pub go_on-requires-clause-there : goal.go_on-requires-clause-there
 go_on-requires-clause-there c =
-    there c.args.limit c.args.live.now c.make_answer.new.live c.answer.new.session c.args.link c.args.input
-    c.args.session c.args.number c.in-Ok.ready c.in-Ok-answer.answered c.make_answer.new.out.items
+    there c.args.limit c.args.live.now c.make_answer.new.live c.answer.new.session c.args.coming.link c.args.input
+    c.args.coming.session c.args.coming.number c.in-Ok.ready c.in-Ok-answer.answered c.make_answer.new.out.items
     c.answer.new.out.items _ _ c.in-Ok.ensures.ok (c.in-Ok-answer.ensures.ok c.args.limit)
 
 pub go_on-requires-clause-sends : goal.go_on-requires-clause-sends
 go_on-requires-clause-sends c =
-    sends-still c.args.limit c.args.live.now c.make_answer.new.live c.answer.new.session c.args.link c.args.input
-    c.args.session c.args.number c.in-Ok.ready c.in-Ok-answer.answered c.make_answer.new.out.items
+    sends-still c.args.limit c.args.live.now c.make_answer.new.live c.answer.new.session c.args.coming.link c.args.input
+    c.args.coming.session c.args.coming.number c.in-Ok.ready c.in-Ok-answer.answered c.make_answer.new.out.items
     c.answer.new.out.items _ _ c.in-Ok.ensures.ok (c.in-Ok-answer.ensures.ok c.args.limit) _ _ c.answer.ensures.room
     c.answer.ensures.capacity
 
 pub returns-in-Ok-answer-clause-ok : goal.returns-in-Ok-answer-clause-ok
 returns-in-Ok-answer-clause-ok c =
     subst
-    (λ (out : List SessionFrame). AnswersAsked c.args.live.now out c.args.limit c.args.link c.args.input c.go_on.result
-    c.go_on.new.live c.go_on.new.out.items)
+    (λ (out : List SessionFrame). AnswersAsked c.args.live.now out c.args.limit c.args.coming.link c.args.input
+    c.go_on.result c.go_on.new.live c.go_on.new.out.items)
     c.make_answer.ensures.out
-    (asked-answered c.args.limit c.args.live.now c.make_answer.new.live c.answer.new.session c.args.link c.args.input
-    c.args.session c.args.number c.in-Ok.ready c.in-Ok-answer.answered c.make_answer.new.out.items
-    c.answer.new.out.items _ _ c.in-Ok.ensures.ok (c.in-Ok-answer.ensures.ok c.args.limit)
+    (asked-answered c.args.limit c.args.live.now c.make_answer.new.live c.answer.new.session c.args.coming.link
+    c.args.input c.args.coming.session c.args.coming.number c.in-Ok.ready c.in-Ok-answer.answered
+    c.make_answer.new.out.items c.answer.new.out.items _ _ c.in-Ok.ensures.ok (c.in-Ok-answer.ensures.ok c.args.limit)
     c.go_on.new.live c.go_on.result c.go_on.new.out.items c.in-Ok-answer.ensures.left c.go_on.ensures.placed.0
     c.go_on.ensures.placed.1 c.go_on.ensures.placed.2 c.go_on.ensures.does)

@@ -18,7 +18,7 @@ pub returns : goal.returns
 returns c =
     subst
     (λ (l : List Abort). IfOk c.giving_up_by.result (IsMadeReady c.args.limit c.args.handle l))
-    (ap (λ (d : Result PreparedAttach LinkError). given_up_by d) c.in_ok-decided.ensures
+    (ap (λ (d : Result PreparedAttach LinkError). given_up_by d) c.in_ok-decided.ensures.ok
     ∙ ap (λ (o : Option End). planned_at o c.args.attach.now)
     (sym (end_there c.args.session.now c.args.handle c.in-Some.link.now c.in-Some.ensures)))
     c.giving_up_by.ensures

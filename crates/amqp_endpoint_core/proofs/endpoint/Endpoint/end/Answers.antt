@@ -1,50 +1,15 @@
-use Rattle.std.proofs.Common.{◌≡◌, ◌++◌, refl, sym, ap, ◌∙◌}
-use Rattle.amqp_endpoint_model.specs.declared.call.Call.TheVariants as call
-use Rattle.amqp_endpoint_model.specs.declared.phase.Phase.{Phase}
-use Rattle.amqp_endpoint_model.specs.Said.{done}
-use Rattle.amqp_endpoint_model.specs.State.{State, is_running, limit_of}
-use Rattle.amqp_endpoint_core.specs.Queue.{frames_waiting}
-use Rattle.amqp_endpoint_core.proofs.CallLaws.{called, queue_called}
-use Rattle.amqp_endpoint_core.proofs.ConnectedLaws.{seen_still, stands_still}
-use Rattle.amqp_endpoint_core.proofs.IdleLaws.{idle_still}
-use Rattle.amqp_endpoint_core.proofs.WithinLaws.{wait_called}
+use Rattle.std.proofs.Common.{refl}
+use Rattle.amqp_endpoint_core.proofs.SessionCalls.{did_quiet, whole_least}
 use Rattle.amqp_endpoint_core.proofs.endpoint.Endpoint.end.Goals as goal
 
 pub invariant_of-self-2 : goal.invariant_of-self-2
 invariant_of-self-2 g c =
-    let (stands, fits, least, within, waits, idle) = c.self.invariant in
-    let does = g.S.SessionRelay.does in
-    let limit = limit_of c.self.inside.peer_limit in
-    let limit_is : c.limit-limit.result ≡ limit =
-    c.limit-limit.ensures ∙ ap (λ (s : State g.row.S.Denot). limit_of s.peer_limit) (sym c.self.view_is) in (
-      stands_still does c.self.inside.settings c.self.inside.phase c.self.inside.phase c.self.inside.peer_limit
-          c.self.inside.peer_limit c.self.inside.sessions c.end.new.self stands c.in_ok-end.ensures.still
-          stands.agrees,
-      fits,
-      least,
-      queue_called does limit c.limit-limit.result (call.End c.args.session) done
-          c.self.inside.queue.items c.self.inside.out.items
-          c.end.new.out.items c.self.inside.sessions c.end.new.self limit_is c.in_ok-end.ensures.ok within,
-      wait_called does c.self.inside.phase c.self.inside.peer_limit c.self.inside.sessions c.end.new.self
-          c.in_ok-end.ensures.within waits,
-      idle_still does c.self.inside.phase c.self.inside.sessions c.end.new.self c.in_ok-end.ensures.idle idle,
-    )
+    let said = c.in_ok-end.ensures in
+    whole_least g.S.SessionRelay.does c.self.inside.queue.items c.self.view_is c.self.invariant
+    c.limit-limit.ensures said.ok said.still (λ any least. said.within any) said.idle
 
 pub returns-clause-ok : goal.returns-clause-ok
 returns-clause-ok g c =
-    let more = c.self.inside.queue.items ++ frames_waiting c.end.new.out.items in
-    let (stands, fits, least, within, waits, idle) = c.self.invariant in
-    let phase : c.self.inside.phase ≡ c.args.self.now.phase =
-    ap (λ (s : State g.row.S.Denot). s.phase) c.self.view_is in
-    called g.S.SessionRelay.does c.args.self.now c.limit-limit.result (call.End c.args.session) done
-    c.self.inside.queue.items
-    c.self.inside.out.items c.end.new.out.items c.self.inside.sessions c.end.new.self _
-    (ap (λ (s : State g.row.S.Denot). s.sessions) c.self.view_is) c.limit-limit.ensures
-    (ap (λ (s : State g.row.S.Denot). s.queue) c.self.view_is)
-    refl
-    (λ outside. c.in_ok-end.ensures.quiet (idle (ap (λ (p : Phase). is_running p) phase ∙ outside)))
-    c.in_ok-end.ensures.ok
-    (seen_still g.S.SessionRelay.does c.self.inside.settings c.self.inside.phase c.self.inside.peer_limit
-    c.self.inside.close_told c.self.inside.input.items more more c.self.inside.sessions c.end.new.self refl
-    c.in_ok-end.ensures.still.state
-    ∙ ap (λ (s : State g.row.S.Denot). record s { sessions = c.end.new.self; queue = more }) c.self.view_is)
+    let said = c.in_ok-end.ensures in
+    did_quiet g.S.SessionRelay.does c.self.inside.queue.items c.self.view_is c.self.invariant
+    c.limit-limit.ensures said.ok said.still refl said.quiet
