@@ -1,7 +1,6 @@
 mod Answering
 mod Conditions
 mod Hearings
-mod RoomsKept
 mod Lists
 mod Places
 mod Handing

@@ -13,4 +13,3 @@ pub mod Disposing
 pub mod Reached
 pub mod Transferring
 pub mod Taking
-pub mod ReadyOn

@@ -36,12 +36,12 @@ abbrev Unit : Type 0
 Unit = Outbound TransferFrame BehindFrame
 
 -- the room that a frame leaves, and the performative that it leaves it behind
-pub record Leaves (limit room : ℕ) (text : Option (List ℕ)) : Type 0 where
+record Leaves (limit room : ℕ) (text : Option (List ℕ)) : Type 0 where
   pub bytes : List ℕ
   pub is : text ≡ Some bytes
   pub fits : 8 + length bytes + room ≤ limit
 
-pub leaves : (limit room : ℕ) (text : Option (List ℕ)) → room_behind text limit ≡ Some room → Leaves limit room text
+leaves : (limit room : ℕ) (text : Option (List ℕ)) → room_behind text limit ≡ Some room → Leaves limit room text
 leaves limit room None is = absurd cc
 leaves limit room (Some text) is = by (limit - 8 - length text == 0) refl is
   where

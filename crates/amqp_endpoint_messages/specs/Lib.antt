@@ -10,4 +10,3 @@ pub mod Echoing
 pub mod Sending
 pub mod GivingUp
 pub mod MadeReady
-pub mod SendingOn
