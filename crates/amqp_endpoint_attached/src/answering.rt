@@ -46,8 +46,9 @@ pub struct Answered {
 /// what is handed out, for which there is room. What was kept of a Flow is answered, for `take_kept`.
 ///
 /// It is refused with `HandleMaxReached` exactly where the handle that is offered is above the peer's handle-max (part 2,
-/// 2.7.2); with `HandleInUse` exactly where a link of the session has the peer's handle; and with `Memory`. The session,
-/// its asked links and what is handed out stay then, and the link comes back as it was.
+/// 2.7.2); with `HandleInUse` exactly where a link of the session has the peer's handle; and with `Memory`, in place of
+/// none of these but `HandleInUse`. The session, its asked links and what is handed out stay then, and the link comes
+/// back as it was.
 pub fn answer(
     session: &mut AskingSession<Numbered<LinkEnd>>,
     alloc: Global,

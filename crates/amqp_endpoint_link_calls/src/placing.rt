@@ -208,8 +208,8 @@ struct AnswerReady {
     behind: Behind,
 }
 
-/// What this link goes by that answers the one which the peer asks for with this handle in the session with that
-/// number, and room for all of it. Of the session nothing changes but the room for transfers.
+/// What this link goes by that answers the one which the peer asks for with this handle in its session, and room for
+/// all of it. Of the session nothing changes but the room for transfers.
 fn make_answer(
     live: &mut LinkSession,
     alloc: Global,
