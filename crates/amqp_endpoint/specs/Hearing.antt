@@ -12,7 +12,7 @@ use Rattle.amqp_endpoint_linking.specs.Linking.{Links, Talk}
 use Rattle.amqp_endpoint_link_hearing.specs.Attaching.{HearsAttach, RefusesAttach}
 use Rattle.amqp_endpoint_link_hearing.specs.Detaching.{HearsDetach}
 use Rattle.amqp_endpoint_link_hearing.specs.Disposing.{HearsDisposition}
-use Rattle.amqp_endpoint_link_hearing.specs.Flowing.{HearsFlow}
+use Rattle.amqp_endpoint_link_hearing.specs.Flowing.{HearsFlow, RefusesFlow}
 use Rattle.amqp_endpoint_link_hearing.specs.Saying.{RefusesSaid}
 use Rattle.amqp_endpoint_link_hearing.specs.Transferring.{HearsTransfer, RefusesTransfer}
 
@@ -25,7 +25,7 @@ Hears old links given limit channel (body.Begin begin) frames events new links_n
 Hears old links given limit channel (body.Attach attach) frames events new links_new given_new =
     HearsAttach old links limit channel attach frames events new links_new × (given_new ≡ given)
 Hears old links given limit channel (body.Flow flow) frames events new links_new given_new =
-    HearsFlow old links channel flow frames events new links_new × (given_new ≡ given)
+    HearsFlow old links limit channel flow frames events new links_new × (given_new ≡ given)
 Hears old links given limit channel (body.Transfer transfer payload) frames events new links_new given_new =
     HearsTransfer old links given channel transfer payload frames events new links_new given_new
 Hears old links given limit channel (body.Disposition disposition) frames events new links_new given_new =
@@ -40,7 +40,7 @@ Hears old links given limit channel other frames events new links_new given_new 
 abbrev pub RefusesBody : Talk → Links → ℕ → ℕ → IncomingChannel → FrameBody → EndpointError → Talk → Type 0
 RefusesBody old links given limit channel (body.Begin begin) e new = RefusesBegin old channel begin e new
 RefusesBody old links given limit channel (body.Attach attach) e new = RefusesAttach old links channel attach e new
-RefusesBody old links given limit channel (body.Flow flow) e new = RefusesSaid old channel (said.Flow flow) e new
+RefusesBody old links given limit channel (body.Flow flow) e new = RefusesFlow old channel flow e new
 RefusesBody old links given limit channel (body.Transfer transfer payload) e new =
     RefusesTransfer old given channel transfer payload e new
 RefusesBody old links given limit channel (body.Disposition disposition) e new =

@@ -53,7 +53,7 @@ pub(crate) fn hear(
         FrameBody::Attach(attach) => {
             hear_attach(talk, links, alloc, limit, channel, attach, out, events)
         }
-        FrameBody::Flow(flow) => hear_flow(talk, links, alloc, channel, flow, out, events),
+        FrameBody::Flow(flow) => hear_flow(talk, links, alloc, limit, channel, flow, out, events),
         FrameBody::Transfer {
             performative,
             payload,

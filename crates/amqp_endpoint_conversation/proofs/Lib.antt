@@ -1,6 +1,7 @@
 mod Answering
 mod Conditions
 mod Hearings
+mod RoomsKept
 mod Lists
 mod Places
 mod Handing

@@ -1,11 +1,12 @@
 -- What the peer says in a session that has begun, or that it asks for (part 2, 2.5.1, 2.5.2, 2.5.6).
-use Rattle.std.specs.Prelude.{◌≡◌, ◌≢◌, ◌⊎◌, ℕ, ◌*◌, List, [], ◌∷◌, ◌++◌, Bool, true, false, Option, Some, None, Result}
+use Rattle.std.specs.Prelude.{◌≡◌, ◌≢◌, ◌⊎◌, ◌+◌, ◌≤◌, ℕ, ◌*◌, List, [], ◌∷◌, ◌++◌, Bool, true, false, Option, Some, None, Result}
 use Rattle.std.specs.Prelude.{Ok, Err, nat_le}
 use Rattle.std.specs.Global.{Box}
 use Rattle.amqp_session_types.specs.declared.channels.IncomingChannel.{IncomingChannel}
 use Rattle.amqp_session_types.specs.declared.refusals.SessionError.{SessionError}
 use Rattle.amqp_session_types.specs.declared.refusals.SessionError.TheVariants.{Memory as NoMemory}
 use Rattle.amqp_session_performatives.specs.declared.session_frame.SessionFrame.{SessionFrame}
+use Rattle.amqp_session_outgoing.specs.Queues.{frames_in}
 use Rattle.amqp_session_core.specs.Relay.{Relations}
 use Rattle.amqp_session_core.specs.Steps as session_steps
 use Rattle.amqp_endpoint_links.specs.declared.session.AskedSession.{AskedSession}
@@ -167,3 +168,14 @@ module _ {R A T D : Type 0} (gives : Relations R A T D) where
 
   abbrev pub FlowTold : Conversation R → List SessionFrame → ℕ → Conversation R → List SessionFrame → Type 0
   FlowTold old out number new out_new = TellsAt (live_at old.sessions number) old out number new out_new
+
+module _ {R A T D : Type 0} where
+  -- what a session that takes it hands out, and what waits there then, is what waited before and at most one frame
+  -- more, and its room for transfers stays; of so many frames before, there are so many then
+  abbrev pub KeepsRoom : Sessions R → ℕ → Heard A T D → Sessions R → ℕ → Type 0
+  KeepsRoom old len (Live n taken) new len_new =
+      (before after : Box (AskingSession R)) → live_at old n ≡ Some before → live_at new n ≡ Some after
+      → (len_new + frames_in after.value.session.outgoing.queues
+      ≤ len + frames_in before.value.session.outgoing.queues + 1)
+      × (after.value.session.outgoing.room ≡ before.value.session.outgoing.room)
+  KeepsRoom old len heard new len_new = Unit {0}

@@ -1,13 +1,14 @@
 //! What the peer says in sessions, by its channels (part 2, 2.5).
-ghost use Rattle.std.specs.Prelude.{◌≡◌, ◌<◌, Err, false, IfOk, IsSome, List, OnOk, Some};
+ghost use Rattle.std.specs.Prelude.{◌≡◌, ◌+◌, ◌≤◌, ◌<◌, Err, false, IfOk, IsSome, List, OnOk, Some};
 ghost use Rattle.std.specs.Global.{Box};
 ghost use Rattle.std.specs.VecDeque.{deque_len, deque_capacity};
+ghost use Rattle.amqp_session_outgoing.specs.Queues.{frames_in};
 ghost use Rattle.amqp_endpoint_links.specs.declared.session.AskedSession.{AskedSession};
 ghost use Rattle.amqp_endpoint_links.specs.Hearing.{says_flow};
 ghost use Rattle.amqp_endpoint_links.specs.declared.asking.AskingSession.{AskingSession};
 ghost use Rattle.amqp_endpoint_tables.specs.State.{asked_at, live_at};
 ghost use Rattle.amqp_endpoint_conversation.specs.Hearing.{Answered, AskedAnswered, FlowTold, LiveAnswered, LiveHears};
-ghost use Rattle.amqp_endpoint_conversation.specs.Hearing.{Refuses};
+ghost use Rattle.amqp_endpoint_conversation.specs.Hearing.{KeepsRoom, Refuses};
 
 use crate::conversation::Conversation;
 use amqp_endpoint_links::{AskingSession, LinkPerformative, PerformativeTaken, hear_asked};
@@ -61,6 +62,9 @@ impl<R: LinkRelay> Conversation<R> {
         ensures step { Answered R.gives self.old out.old.items channel said result self.new
             out.new.items }
         ensures untouched { says_flow said ≡ false → OnOk result (out.new ≡ out.old) }
+        ensures room { IfOk result (λ heard.
+            KeepsRoom self.old.sessions (deque_len out.old) heard self.new.sessions (deque_len out.new)) }
+        ensures capacity { OnOk result (deque_capacity out.old ≤ deque_capacity out.new) }
     {
         let Some(number) = self.sessions.reached(channel) else {
             drop(said);
@@ -129,6 +133,9 @@ impl<R: LinkRelay> Conversation<R> {
         ensures step { (session : Box (AskingSession R)) → live_at self.old.sessions number ≡ Some session →
             LiveAnswered R.gives self.old out.old.items number session said result self.new out.new.items }
         ensures untouched { says_flow said ≡ false → OnOk result (out.new ≡ out.old) }
+        ensures room { IfOk result (λ heard.
+            KeepsRoom self.old.sessions (deque_len out.old) heard self.new.sessions (deque_len out.new)) }
+        ensures capacity { OnOk result (deque_capacity out.old ≤ deque_capacity out.new) }
     {
         match self.hear(alloc, out, number, said) {
             Ok(taken) => Ok(Heard::Live(number, taken)),
@@ -172,6 +179,12 @@ impl<R: LinkRelay> Conversation<R> {
         ensures memory { result ≡ Err SessionError.Memory →
             (self.new ≡ self.old) × (out.new.items ≡ out.old.items) }
         ensures untouched { says_flow said ≡ false → out.new ≡ out.old }
+        ensures room { (before after : Box (AskingSession R)) → live_at self.old.sessions number ≡ Some before →
+            live_at self.new.sessions number ≡ Some after →
+            (deque_len out.new + frames_in after.value.session.outgoing.queues
+            ≤ deque_len out.old + frames_in before.value.session.outgoing.queues + 1)
+            × (after.value.session.outgoing.room ≡ before.value.session.outgoing.room) }
+        ensures capacity { deque_capacity out.old ≤ deque_capacity out.new }
     {
         let Some(session) = self.sessions.live_mut(number) else {
             unreachable!()

@@ -1,9 +1,9 @@
 //! What the peer says to the sessions (part 2, 2.5).
-ghost use Rattle.std.specs.Prelude.{◌≡◌, ◌<◌, ℕ, false, OnOk};
+ghost use Rattle.std.specs.Prelude.{◌≡◌, ◌≤◌, ◌<◌, ℕ, false, IfOk, OnOk};
 ghost use Rattle.std.specs.VecDeque.{deque_len, deque_capacity};
 ghost use Rattle.amqp_endpoint_conversation.specs.Beginning.{BeginAnswered};
 ghost use Rattle.amqp_endpoint_conversation.specs.Ending.{EndAnswered};
-ghost use Rattle.amqp_endpoint_conversation.specs.Hearing.{Answered, FlowTold};
+ghost use Rattle.amqp_endpoint_conversation.specs.Hearing.{Answered, FlowTold, KeepsRoom};
 ghost use Rattle.amqp_endpoint_links.specs.Hearing.{says_flow};
 ghost use Rattle.amqp_endpoint_conversation.specs.Going.{AnswersPlain, Goes, Rests};
 
@@ -65,7 +65,8 @@ pub fn hear_end<R: LinkRelay>(
 
 /// Takes what the peer says in the session that its channel reaches, as `Conversation::on_incoming` does (part 2, 2.5).
 /// What it hands out fits where all that waits does, and no link answers a Flow with properties (part 2, 2.7.4). Where
-/// it is no Flow and isn't refused, `out` isn't touched.
+/// it is no Flow and isn't refused, `out` isn't touched. What the session hands out, and what waits there then, is what
+/// waited before and at most one frame more, and its room for transfers stays.
 ///
 /// It is refused with `NotFound` where the channel reaches no session, and with `Asked` where one refuses it that the
 /// peer asks for; nothing changes then. It is refused with `Session` where one refuses it that has begun: its End, with
@@ -81,6 +82,9 @@ pub fn hear<R: LinkRelay>(
     ensures step { Answered R.gives talk.old out.old.items channel said result talk.new
         out.new.items }
     ensures untouched { says_flow said ≡ false → OnOk result (out.new ≡ out.old) }
+    ensures room { IfOk result (λ heard.
+        KeepsRoom talk.old.sessions (deque_len out.old) heard talk.new.sessions (deque_len out.new)) }
+    ensures capacity { OnOk result (deque_capacity out.old ≤ deque_capacity out.new) }
     ensures goes { (limit : ℕ) → AnswersPlain R.gives →
         Goes limit talk.old talk.new out.old.items out.new.items }
     ensures rests { Rests talk.old talk.new out.old.items out.new.items }

@@ -8,14 +8,12 @@ use Rattle.amqp_session_types.specs.declared.error.Error.{Error}
 use Rattle.amqp_session_types.specs.declared.handles.InputHandle.{InputHandle}
 use Rattle.amqp_session_types.specs.declared.handles.OutputHandle.{OutputHandle}
 use Rattle.amqp_session_states.specs.declared.delivery_state.DeliveryState.{DeliveryState}
-use Rattle.amqp_session_performatives.specs.declared.link_flow.LinkFlow.{LinkFlow}
 use Rattle.amqp_session_performatives.specs.declared.session_frame.SessionFrame.{SessionFrame}
 use Rattle.amqp_session_performatives.specs.declared.session_frame.SessionFrameBody.{SessionFrameBody}
 use Rattle.amqp_session_performatives.specs.declared.session_frame.SessionFrameBody.TheVariants as said
 use Rattle.amqp_session_core.specs.State.{link_at}
 use Rattle.amqp_session_core.specs.Tables.{RouteTable}
 use Rattle.amqp_session_core.specs.Steps.{Act, Allocates, Step}
-use Rattle.amqp_session_core.specs.declared.batch.BehindFrame.TheVariants as behind
 use Rattle.amqp_session_core.specs.declared.dispositions.Touched.{Touched}
 use Rattle.amqp_link_base.specs.declared.detached.Detached.{Detached}
 use Rattle.amqp_link.specs.declared.end.End.{End}
@@ -47,12 +45,13 @@ use Rattle.amqp_endpoint_model.specs.declared.call.Disposal.{Disposal}
 use Rattle.amqp_endpoint_model.specs.declared.call.Sending.{Sending}
 use Rattle.amqp_endpoint_model.specs.declared.event.Event.{Event}
 use Rattle.amqp_endpoint_laws.proofs.AttachedBehind.{allocates, asked-is, goes, roomed}
-use Rattle.amqp_endpoint_laws.proofs.BehindAttach.{Behind, behind-rests, behind-routes}
+use Rattle.amqp_endpoint_laws.proofs.Behind.{BehindBy, behind-rests, behind-routes}
 use Rattle.amqp_endpoint_laws.proofs.HoldingDone.{closes-stays, closing-stays, detaches-stay, disposes-all}
 use Rattle.amqp_endpoint_laws.proofs.HoldingDone.{disposes-one}
 use Rattle.amqp_endpoint_laws.proofs.HoldingDone.{drains-stays, echoes-stay, failing-stays, gives-stays, leave-stay}
 use Rattle.amqp_endpoint_laws.proofs.HoldingDone.{parts-stay, remembers-stays, sends-stays, tells-stays}
-use Rattle.amqp_endpoint_laws.proofs.HoldingInside.{LeadsLess, behind-stays, less}
+use Rattle.amqp_endpoint_laws.proofs.HoldingInside.{LeadsLess, less}
+use Rattle.amqp_session_core.specs.Batch.{Transfers}
 use Rattle.amqp_endpoint_laws.proofs.PassedPlaces.{KeepsAsked, WasAsked}
 
 -- a link that is asked for was so before, where the same are
@@ -118,8 +117,9 @@ told-keeps count handle old new t =
     less-keeps old new (ap (λ (x : Linked). x.asked) t.rest)
     (tells-stays count handle (link_at old.session handle.0) old.session new.session t.tells).leads
 
--- as it goes on behind an Attach
-pub behind-keeps : (frames : List SessionFrame) (old new : Linked) → Behind frames old new → KeepsAsked old new
+-- as it goes on behind an Attach, or a Flow
+pub behind-keeps : {Such : Transfers → Type 0} (frames : List SessionFrame) (old new : Linked)
+    → BehindBy Such frames old new → KeepsAsked old new
 behind-keeps frames old new b =
     less-keeps old new (ap (λ (x : Linked). x.asked) b.rest) (behind-rests frames old new b).leads
 

@@ -1,5 +1,5 @@
 -- A link attaches by a call: what its session does, one step after the other (part 2, 2.6.3, 2.6.13).
-use Rattle.std.proofs.Common.{◌≡◌, ℕ, List, [], ◌∷◌, ◌++◌, Option, Some, None, ap, sym, subst, ◌∙◌}
+use Rattle.std.proofs.Common.{◌≡◌, ℕ, List, [], ◌∷◌, ◌++◌, Option, Some, None, ap, subst, ◌∙◌}
 use Rattle.std.specs.FinMap as map
 use Rattle.amqp_session_types.specs.declared.handles.InputHandle.{InputHandle}
 use Rattle.amqp_session_types.specs.declared.handles.OutputHandle.{OutputHandle}
@@ -18,7 +18,8 @@ use Rattle.amqp_endpoint_link_calls.specs.declared.placed.Placed.{Placed}
 use Rattle.amqp_endpoint_messages.specs.All.{open_count}
 use Rattle.amqp_endpoint_model.specs.State.{error_of}
 use Rattle.amqp_endpoint_model.specs.Step.{not_allowed}
-use Rattle.amqp_endpoint_laws.proofs.BehindAttach.{Behind, attached-behind, behind-gives-up, behind-inside}
+use Rattle.amqp_endpoint_laws.proofs.Behind.{behind-inside}
+use Rattle.amqp_endpoint_laws.proofs.BehindAttach.{Behind, attached-behind, behind-gives-up}
 use Rattle.amqp_endpoint_laws.proofs.GivenUp.{GiveUp}
 
 -- its Attach is handed out first, under its handle there, and behind it what is done inside of its session, by which

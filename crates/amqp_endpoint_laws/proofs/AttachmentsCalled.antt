@@ -241,7 +241,7 @@ pub take-none : (limit : ℕ) (frame : Frame) (frames : List SessionFrame) (even
 take-none limit frame frames events old new h =
     none-in frames
     (frame-heard NoneIn NoneAt attaching-none frame.body old new limit (record { 0 = frame.channel }) frames events
-    h.0)
+    (λ flows accepted. tt) h.0)
 
 -- the names of the links that attach
 none-named : (frames : List SessionFrame) → attaches_in frames ≡ [] → names_in frames ≡ []

@@ -32,7 +32,7 @@ use Rattle.amqp_endpoint_tables.proofs.Owning.{same_number}
 use Rattle.amqp_endpoint_conversation.specs.Windows.{Came, Passing, went}
 use Rattle.amqp_endpoint_laws.specs.Attachments.{attaches_in, attachment, bodies_of, uses}
 use Rattle.amqp_endpoint_laws.specs.Passed.{PassesIn, called_in, is_it, passes_in, sent_in, session_taking}
-use Rattle.amqp_endpoint_laws.specs.Queued.{SayMessages, messages_by, pieces_on, pieces_waiting}
+use Rattle.amqp_endpoint_laws.specs.Queued.{SayAll, SayMessages, pieces_on, pieces_waiting}
 use Rattle.amqp_endpoint_laws.specs.Handed.{pieces_come}
 use Rattle.amqp_endpoint_laws.specs.Resumed.{IsResumed, NeverResumed, Resumes}
 use Rattle.amqp_endpoint_laws.specs.Taken.{NoneAttaches}
@@ -44,14 +44,16 @@ use Rattle.amqp_endpoint_laws.proofs.GivenUp.{AllAborted}
 use Rattle.amqp_endpoint_laws.proofs.LinksKept.{BackGoesOn, FinishedGoesOn, LeftGoesOn}
 use Rattle.amqp_endpoint_laws.proofs.LinksStay.{entered-before, held-since}
 use Rattle.amqp_endpoint_laws.proofs.PassedSteps.{sent-append, sent-went}
-use Rattle.amqp_endpoint_laws.proofs.QueuedAttached.{HandlesApart, Reached, aborted-sent, is-entered, link-entered}
+use Rattle.amqp_endpoint_laws.proofs.QueuedAttached.{HandlesApart, HandlesStand, Reached, aborted-sent, is-entered}
 use Rattle.amqp_endpoint_laws.proofs.QueuedSaid.{says-behind}
-use Rattle.amqp_endpoint_laws.proofs.QueuedAttached.{reached-apart, reached-new, reached-on, same-handle, says-all}
+use Rattle.amqp_endpoint_laws.proofs.QueuedAttached.{link-entered, reached-apart, reached-new, reached-on, same-handle}
+use Rattle.amqp_endpoint_laws.proofs.QueuedAttached.{says-all}
 use Rattle.amqp_endpoint_laws.proofs.QueuedOrder.{pieces-both}
 use Rattle.amqp_endpoint_laws.proofs.QueuedSince.{done-of}
 use Rattle.amqp_endpoint_laws.proofs.TakenRead.{attachment-read, named-so}
 
-module _ (handles_apart : HandlesApart) (back_on : BackGoesOn) (left_on : LeftGoesOn) (finished_on : FinishedGoesOn)
+module _ (handles_apart : HandlesApart) (handles_stand : HandlesStand) (back_on : BackGoesOn) (left_on : LeftGoesOn)
+    (finished_on : FinishedGoesOn)
   where
     module _ (link number : ℕ) (handle : OutputHandle) where
       abbrev IsHere : LinkedSessions → Type 0
@@ -195,8 +197,8 @@ module _ (handles_apart : HandlesApart) (back_on : BackGoesOn) (left_on : LeftGo
         given-up : AllAborted (pieces_on handle.0 once.later)
         given-up =
             subst (λ (fs : List SessionFrame). AllAborted (pieces_on handle.0 fs)) once.are
-            (aborted-sent handles_apart back_on left_on finished_on sessions old new end settings before since_then
-            number link limit it events frames deed passings handle fresh done a d passes held never)
+            (aborted-sent handles_apart handles_stand back_on left_on finished_on sessions old new end settings before
+            since_then number link limit it events frames deed passings handle fresh done a d passes held never)
 
         -- it is read as what goes with its handle
         attachment-is : attachment (name_of it) (uses (name_of it) (bodies_of (sent_in first)))
@@ -207,8 +209,8 @@ module _ (handles_apart : HandlesApart) (back_on : BackGoesOn) (left_on : LeftGo
             once.handled
             ∙ own-handle it a.placed.handle
             ∙ ap (λ (h : OutputHandle). h.0)
-            (same-handle handles_apart back_on left_on finished_on sessions old new end settings before since_then
-            number link limit it events frames deed passings handle fresh done a d passes held never) in
+            (same-handle handles_apart handles_stand back_on left_on finished_on sessions old new end settings before
+            since_then number link limit it events frames deed passings handle fresh done a d passes held never) in
             let later : List SessionFrame = once.later ++ sent_in passings in
             let none : NoneTakes handle.0 (attaches_in later) =
             subst (λ (xs : List Attach). NoneTakes handle.0 xs)
@@ -216,11 +218,11 @@ module _ (handles_apart : HandlesApart) (back_on : BackGoesOn) (left_on : LeftGo
             (attaches-both once.later (sent_in passings)
             ∙ ap (λ (xs : List Attach). xs ++ attaches_in (sent_in passings)) once.none))
             (none-since link number handle since_then new end passings never
-            (reached-new handles_apart back_on left_on finished_on sessions old new end settings before since_then
-            number link limit it events frames deed passings handle fresh done a d passes held never)
+            (reached-new handles_apart handles_stand back_on left_on finished_on sessions old new end settings before
+            since_then number link limit it events frames deed passings handle fresh done a d passes held never)
             passes
-            (is-entered handles_apart back_on left_on finished_on sessions old new end settings before since_then number
-            link limit it events frames deed passings handle fresh done a d passes held never)
+            (is-entered handles_apart handles_stand back_on left_on finished_on sessions old new end settings before
+            since_then number link limit it events frames deed passings handle fresh done a d passes held never)
             held) in
             ap (λ (came : List FrameBody). attachment (name_of it) (uses (name_of it) (bodies_of (sent_in first))) came)
             (ap (λ (fs : List SessionFrame). bodies_of (sent_in first ++ fs ++ sent_in passings)) once.are
@@ -234,18 +236,24 @@ module _ (handles_apart : HandlesApart) (back_on : BackGoesOn) (left_on : LeftGo
             ∙ pieces-alike handle.0 later
             ∙ pieces-both handle.0 once.later (sent_in passings)
 
-        pub attachment-says : SayMessages
+        pub attachment-says : SayAll link new since_then end
             (attachment (name_of it) (uses (name_of it) (bodies_of (sent_in first)))
             (bodies_of (sent_in first ++ frames ++ sent_in passings))
             ++ pieces_waiting handle.0 session.value.session)
-            (messages_by link since_then)
         attachment-says =
             let waiting : List Piece = pieces_waiting handle.0 session.value.session in
             let passed : List Piece = pieces_on handle.0 (sent_in passings) in
-            subst (λ (ps : List Piece). SayMessages ps (messages_by link since_then))
-            (sym
-            (ap (λ (ps : List Piece). ps ++ waiting) attachment-is
-            ∙ append_assoc (pieces_on handle.0 once.later) passed waiting))
-            (says-behind (pieces_on handle.0 once.later) (passed ++ waiting) (messages_by link since_then) given-up
-            (says-all handles_apart back_on left_on finished_on sessions old new end settings before since_then number
-            link limit it events frames deed passings handle fresh done a d passes held never session live))
+            let all =
+            says-all handles_apart handles_stand back_on left_on finished_on sessions old new end settings before
+            since_then number link limit it events frames deed passings handle fresh done a d passes held never session
+            live in
+            record {
+              messages = all.messages;
+              are = all.are;
+              say =
+                  subst (λ (ps : List Piece). SayMessages ps all.messages)
+                  (sym
+                  (ap (λ (ps : List Piece). ps ++ waiting) attachment-is
+                  ∙ append_assoc (pieces_on handle.0 once.later) passed waiting))
+                  (says-behind (pieces_on handle.0 once.later) (passed ++ waiting) all.messages given-up all.say);
+            }

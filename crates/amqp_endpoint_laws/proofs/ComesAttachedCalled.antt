@@ -40,7 +40,7 @@ use Rattle.amqp_endpoint_laws.specs.Held.{number_at}
 use Rattle.amqp_endpoint_laws.specs.Passed.{is_it}
 use Rattle.amqp_endpoint_laws.specs.Taken.{asked_in}
 use Rattle.amqp_endpoint_laws.proofs.AttachedBehind.{allocates, goes}
-use Rattle.amqp_endpoint_laws.proofs.BehindAttach.{behind-routes}
+use Rattle.amqp_endpoint_laws.proofs.Behind.{behind-routes}
 use Rattle.amqp_endpoint_laws.proofs.ComesAttachedHeard.{reaches-link}
 use Rattle.amqp_endpoint_laws.proofs.ComesAttachedHeld.{end-held, received-before, receiving-holds}
 use Rattle.amqp_endpoint_laws.proofs.HeldKept.{agree-kept}

@@ -36,7 +36,8 @@ use Rattle.amqp_endpoint_tables.specs.declared.place.Place.TheVariants.{Asked, L
 use Rattle.amqp_endpoint_tables.proofs.Owning.{at, other_number, same_number}
 use Rattle.amqp_endpoint_laws.specs.Handed.{leads_there}
 use Rattle.amqp_endpoint_laws.specs.Passed.{is_it}
-use Rattle.amqp_endpoint_laws.proofs.BehindAttach.{Follows, behind-rests, behind-routes, number_of}
+use Rattle.amqp_endpoint_laws.proofs.Behind.{behind-rests, behind-routes}
+use Rattle.amqp_endpoint_laws.proofs.BehindAttach.{Follows, number_of}
 use Rattle.amqp_endpoint_laws.proofs.ComesAttachedHeld.{IsHeld, end-held}
 use Rattle.amqp_endpoint_laws.proofs.HoldingDeeds.{talk-same}
 use Rattle.amqp_endpoint_laws.proofs.HoldingEnds.{Part, Stays, held_link, stays-on, stays-still}

@@ -61,7 +61,8 @@ use Rattle.amqp_endpoint_link_hearing.specs.Heard.{attach_of, session_of}
 use Rattle.amqp_endpoint_link_hearing.specs.Attaching.{HearsAttach, HearsReady, opened_in}
 use Rattle.amqp_endpoint_link_hearing.specs.Detaching as detaching
 use Rattle.amqp_endpoint_link_hearing.specs.Disposing as disposing
-use Rattle.amqp_endpoint_link_hearing.specs.Flowing.{LeaveWith, LeavesOnce, LeavesWith, LetsGo, ended, ended_link}
+use Rattle.amqp_endpoint_link_hearing.specs.Flowing.{HearsCredited, HearsFlow, LeaveWith, LeavesOnce, LeavesWith}
+use Rattle.amqp_endpoint_link_hearing.specs.Flowing.{LetsGo, ended, ended_link}
 use Rattle.amqp_endpoint_link_hearing.specs.InSession.{GoesOn}
 use Rattle.amqp_endpoint_link_hearing.specs.Naming.{link_in}
 use Rattle.amqp_endpoint_link_hearing.specs.Saying.{BarsSaid, EndsBy, FailsBySaid, LinkHeard, LinkRefusal, RefusesSaid}
@@ -72,14 +73,17 @@ use Rattle.amqp_endpoint_link_hearing.proofs.Barrings.{refuses-by}
 use Rattle.amqp_endpoint_laws.specs.Conversing.{SessionsAct}
 use Rattle.amqp_endpoint_laws.specs.Held.{Agrees, Numbers, number_at, number_in, number_live, number_of}
 use Rattle.amqp_endpoint_laws.proofs.Agreeing.{Same, stay}
-use Rattle.amqp_endpoint_laws.proofs.BehindAttach.{Follows, becomes-behind, behind-numbers, number_of as session_heard}
-use Rattle.amqp_endpoint_laws.proofs.BehindAttach.{room-behind}
+use Rattle.amqp_endpoint_laws.proofs.Behind.{FollowsBy, behind-numbers, room-behind}
+use Rattle.amqp_endpoint_laws.proofs.BehindAttach.{becomes-behind, number_of as session_heard}
+use Rattle.amqp_endpoint_laws.proofs.BehindFlow.{Any, flow-behind}
 use Rattle.amqp_endpoint_laws.proofs.HeldCalled.{Stands, TalkSame, live-same, stays-held, talk-on, talk-same}
 use Rattle.amqp_endpoint_laws.proofs.HeldParting.{left-held, session-back}
 use Rattle.amqp_endpoint_laws.proofs.HeldSessions.{Gone, about-same, ends-gone, inside, keep-in, live-changed, within}
 use Rattle.amqp_endpoint_laws.proofs.Numbers.{KeepNumbers, heard-kept, kept-on, same-kept, step-kept}
 use Rattle.amqp_endpoint_laws.proofs.NumbersInside.{again-kept, answers-kept, echoes-kept, refuses-kept, remembers-kept}
 use Rattle.amqp_endpoint_laws.proofs.NumbersInside.{told-kept}
+use Rattle.amqp_session_core.specs.Batch.{Transfers}
+use Rattle.amqp_session_performatives.specs.declared.flow.Flow.{Flow}
 use Rattle.amqp_endpoint_laws.proofs.RoomMade.{RoomMade, room-made}
 
 -- a session that the peer's channel reaches answers, and doesn't end by its fault
@@ -287,13 +291,13 @@ room-same : (old : Talk) (channel : IncomingChannel) (new : Talk) → RoomMade o
 room-same old channel new (inl same) = talk-same old new same
 room-same old channel new (inr m) =
     in-session _ old m.number new
-    (λ before after r. behind-numbers [] before after (room-behind before after r)) m.made
+    (λ before after r. behind-numbers {Such = Any} [] before after (room-behind before after r)) m.made
 
-attach-follows : (it : LinkHeard) (frames : List SessionFrame) (old new : Talk) → Follows it frames old new
-    → TalkSame old new
-attach-follows it frames old new (inl (none, same)) = talk-same old new same
-attach-follows it frames old new (inr g) =
-    in-session _ old (session_heard it) new (λ before after b. behind-numbers frames before after b) g
+follows : {Such : Transfers → Type 0} (number : ℕ) (frames : List SessionFrame) (old new : Talk)
+    → FollowsBy Such number frames old new → TalkSame old new
+follows number frames old new (inl (none, same)) = talk-same old new same
+follows number frames old new (inr g) =
+    in-session _ old number new (λ before after b. behind-numbers frames before after b) g
 
 attach-heard : (old : Talk) (links : Links) (limit : ℕ) (channel : IncomingChannel) (attach : Attach)
     (frames : List SessionFrame) (events : List Event) (new : Talk) (links_new : Links)
@@ -309,7 +313,7 @@ attach-heard old links limit channel attach frames events new links_new h a =
     by (inl t) agrees =
         stays-held h.ready new links links_new
         (talk-on h.ready t.mid new (answered h.ready [] channel _ (Ok t.heard) t.mid [] tt t.answered)
-        (attach-follows t.heard frames t.mid new
+        (follows (session_heard t.heard) frames t.mid new
         (becomes-behind limit (opened_in h.ready (attach_of t.heard) h.named) t.heard h.named t.mid attach frames events
         new t.becomes)))
         t.same agrees
@@ -387,6 +391,26 @@ flow-lets-go (Some session) frames mid new links links_new g a =
     inside session g.before.value.session g.after.value.session mid.sessions new.sessions
     (live-changed session g.before g.after mid.sessions new.sessions g.stepped) links links_new
     (leave-with (number_at mid.sessions) session frames g.before.value g.after.value links links_new g.done) a
+
+flow-heard : (old : Talk) (links : Links) (limit : ℕ) (channel : IncomingChannel) (flow : Flow)
+    (frames : List SessionFrame) (events : List Event) (new : Talk) (links_new : Links)
+    → HearsFlow old links limit channel flow frames events new links_new → Agrees (number_at old.sessions) links
+    → Agrees (number_at new.sessions) links_new
+flow-heard old links limit channel flow frames events new links_new h a =
+    by h.hears
+    (stays-held old h.ready links links (room-same old channel h.ready h.makes_room) refl a)
+  where
+    by : HearsCredited h.ready links limit channel flow frames events new links_new
+        → Agrees (number_at h.ready.sessions) links → Agrees (number_at new.sessions) links_new
+    by (inl t) agrees =
+        stays-held t.left new links_new links_new
+        (follows (session_heard t.heard) t.behind t.left new
+        (flow-behind limit t.heard flow.handle t.left t.behind events new t.sends_on))
+        refl
+        (flow-lets-go (session_of t.heard) t.first t.mid t.left links links_new t.leave
+        (stays-held h.ready t.mid links links
+        (answered h.ready [] channel _ (Ok t.heard) t.mid t.first tt t.answered) refl agrees))
+    by (inr f) agrees = fails h.ready links channel _ frames events new links_new f agrees
 
 -- the peer's Disposition
 disposition-follows : (runs : Option (ℕ × SmallVec (ℕ × ℕ))) (limit : ℕ) (old mid new : Talk) (it : Disposition)
@@ -493,11 +517,8 @@ frame-held (body.Begin begin) old new links links_new given given_new limit chan
     begin-heard old links channel begin frames events new links_new b a
 frame-held (body.Attach attach) old new links links_new given given_new limit channel frames events (h, g) a =
     attach-heard old links limit channel attach frames events new links_new h a
-frame-held (body.Flow flow) old new links links_new given given_new limit channel frames events (inl t, g) a =
-    flow-lets-go (session_of t.heard) frames t.mid new links links_new t.leave
-    (stays-held old t.mid links links (answered old [] channel _ (Ok t.heard) t.mid frames tt t.answered) refl a)
-frame-held (body.Flow flow) old new links links_new given given_new limit channel frames events (inr f, g) a =
-    fails old links channel _ frames events new links_new f a
+frame-held (body.Flow flow) old new links links_new given given_new limit channel frames events (h, g) a =
+    flow-heard old links limit channel flow frames events new links_new h a
 frame-held (body.Transfer transfer payload) old new links links_new given given_new limit channel frames events
     (inl t) a =
     stays-held old new links links_new
@@ -563,7 +584,9 @@ refused-same (body.Attach attach) old new links given limit channel e (inl b) =
     talk-on old b.ready new (room-same old channel b.ready (room-made b.named old channel b.ready b.makes_room))
     (said-barred b.ready channel _ e new b.bars)
 refused-same (body.Attach attach) old new links given limit channel e (inr u) = talk-same old new u.1
-refused-same (body.Flow flow) old new links given limit channel e r = said-refused old channel _ e new r
+refused-same (body.Flow flow) old new links given limit channel e (inl b) =
+    talk-on old b.ready new (room-same old channel b.ready b.makes_room) (said-barred b.ready channel _ e new b.bars)
+refused-same (body.Flow flow) old new links given limit channel e (inr u) = talk-same old new u.1
 refused-same (body.Transfer transfer payload) old new links given limit channel e (inl u) = talk-same old new u.stays
 refused-same (body.Transfer transfer payload) old new links given limit channel e (inr (inl r)) =
     said-refused old channel _ e new r

@@ -9,7 +9,7 @@ use Rattle.amqp_endpoint_attached.specs.Links.{with_number}
 use Rattle.amqp_endpoint_link_calls.specs.Attaching.{AttachedBy}
 use Rattle.amqp_endpoint_link_calls.specs.declared.placed.Placed.{Placed}
 use Rattle.amqp_endpoint_laws.proofs.AttachedBehind.{allocates, goes, roomed}
-use Rattle.amqp_endpoint_laws.proofs.BehindAttach.{behind-rests}
+use Rattle.amqp_endpoint_laws.proofs.Behind.{behind-rests}
 use Rattle.amqp_endpoint_laws.proofs.HoldingEnds.{Comes, IsEmpty, empty-fresh, empty-handle, empty-sent, empty-takes}
 use Rattle.amqp_endpoint_laws.proofs.HoldingInside.{Each, LeadsFirst, allocated-comes, allocated-leads, each-comes}
 use Rattle.amqp_endpoint_laws.proofs.HoldingInside.{first-rests}

@@ -43,9 +43,8 @@ use Rattle.amqp_endpoint_link_hearing.specs.Attaching.{HearsReady, opened_in}
 use Rattle.amqp_endpoint_link_hearing.specs.Detaching as detaching
 use Rattle.amqp_endpoint_link_hearing.specs.Disposing as disposing
 use Rattle.amqp_endpoint_link_hearing.specs.Disposing.{runs_of}
-use Rattle.amqp_endpoint_link_hearing.specs.Flowing.{LetsGo}
+use Rattle.amqp_endpoint_link_hearing.specs.Flowing.{HearsCredited, LetsGo}
 use Rattle.amqp_endpoint_link_hearing.specs.Heard.{attach_of, detach_of, session_of}
-use Rattle.amqp_endpoint_link_hearing.specs.Saying.{LinkHeard}
 use Rattle.amqp_endpoint_link_calls.specs.Disposing.{DisposedAt, disposes_of_all, disposes_of_one}
 use Rattle.amqp_endpoint_link_calls.specs.Sending.{sends}
 use Rattle.amqp_endpoint.specs.Attaching.{LinkAttached, LinkResumed}
@@ -77,7 +76,9 @@ use Rattle.amqp_endpoint_tables.specs.declared.place.Place.TheVariants.{Asked, L
 use Rattle.amqp_endpoint_tables.proofs.Owning.{at}
 use Rattle.amqp_endpoint_link_hearing.proofs.Barrings.{refuses-by}
 use Rattle.amqp_endpoint_laws.specs.Held.{number_of}
-use Rattle.amqp_endpoint_laws.proofs.BehindAttach.{Follows, becomes-behind, behind-rests, number_of as session_heard}
+use Rattle.amqp_endpoint_laws.proofs.Behind.{FollowsBy, behind-rests}
+use Rattle.amqp_endpoint_laws.proofs.BehindAttach.{becomes-behind, number_of as session_heard}
+use Rattle.amqp_endpoint_laws.proofs.BehindFlow.{flow-behind}
 use Rattle.amqp_endpoint_laws.proofs.HeldCalled.{accepted-none, begun-none}
 use Rattle.amqp_endpoint_laws.proofs.HoldingAttached.{attached-comes, attached-first}
 use Rattle.amqp_endpoint_laws.proofs.HoldingDone.{StaysBy, closes-stays, closing-stays}
@@ -101,6 +102,9 @@ use Rattle.amqp_endpoint_laws.proofs.PassedPlaces.{IsGone, eq-same}
 use Rattle.amqp_endpoint_laws.proofs.Placing.{IsPlaced, is-again, is-new}
 use Rattle.amqp_endpoint_laws.specs.Resumed.{IsResumed}
 use Rattle.amqp_endpoint_laws.proofs.RoomMade.{RoomMade, room-holds, room-leads, room-made, room-named}
+use Rattle.amqp_session_core.specs.Batch.{Transfers}
+use Rattle.amqp_session_performatives.specs.declared.flow.Flow.{Flow}
+use Rattle.amqp_endpoint_laws.proofs.RoomMade.{room-rests}
 
 pub talk-same : (old new : Talk) → new ≡ old → AllRest old.sessions new.sessions
 talk-same old new same = sessions-same old.sessions new.sessions (ap (λ (t : Talk). t.sessions) same)
@@ -144,17 +148,30 @@ begin-goes old links channel begin frames events new links_new (inr f) = by f.fa
     by e r = absurd r
 
 -- what comes of an Attach, a Flow, a Disposition and a Detach
-attach-follows : (it : LinkHeard) (frames : List SessionFrame) (old new : Talk) → Follows it frames old new
-    → AllRest old.sessions new.sessions
-attach-follows it frames old new (inl (none, same)) = talk-same old new same
-attach-follows it frames old new (inr g) =
-    goes-on-stays _ old (session_heard it) new (λ a b d. behind-rests frames a b d) g
+follows : {Such : Transfers → Type 0} (number : ℕ) (frames : List SessionFrame) (old new : Talk)
+    → FollowsBy Such number frames old new → AllRest old.sessions new.sessions
+follows number frames old new (inl (none, same)) = talk-same old new same
+follows number frames old new (inr g) =
+    goes-on-stays _ old number new (λ a b d. behind-rests frames a b d) g
 
 flow-comes : (o : Option ℕ) (frames : List SessionFrame) (old new : Talk) (links links_new : Links)
     → LetsGo o frames old links new links_new → AllRest old.sessions new.sessions
 flow-comes None frames old new links links_new l = talk-same old new l.0
 flow-comes (Some session) frames old new links links_new g =
     goes-on-stays _ old session new (λ a b l. leave-stay frames a links b links_new l) g
+
+flow-rests : (old : Talk) (links : Links) (limit : ℕ) (channel : IncomingChannel) (flow : Flow)
+    (frames : List SessionFrame) (events : List Event) (new : Talk) (links_new : Links)
+    → HearsCredited old links limit channel flow frames events new links_new → AllRest old.sessions new.sessions
+flow-rests old links limit channel flow frames events new links_new (inl t) =
+    all-on old.sessions t.mid.sessions new.sessions
+    (heard-rests (said.Flow flow) tt old channel t.heard t.first t.mid t.answered)
+    (all-on t.mid.sessions t.left.sessions new.sessions
+    (flow-comes (session_of t.heard) t.first t.mid t.left links links_new t.leave)
+    (follows (session_heard t.heard) t.behind t.left new
+    (flow-behind limit t.heard flow.handle t.left t.behind events new t.sends_on)))
+flow-rests old links limit channel flow frames events new links_new (inr f) =
+    fails-stay (said.Flow flow) old new f.number f.fault f.session frames channel f.answered
 
 disposition-comes : (o : Option (ℕ × SmallVec (ℕ × ℕ))) (limit : ℕ) (old mid new : Talk) (it : Disposition)
     (frames : List SessionFrame) (events : List Event) → disposing.Follows o limit old it mid frames events new
@@ -215,12 +232,9 @@ frame-rests : (it : FrameBody) → IsCalmFrame it → (old new : LinkedSessions)
 frame-rests (body.Begin begin) other old new limit channel frames events (b, g) =
     begin-goes old.talk old.links channel begin frames events new.talk new.links b
 frame-rests (body.Attach attach) other old new limit channel frames events h = absurd other
-frame-rests (body.Flow flow) other old new limit channel frames events (inl t, g) =
-    all-on old.talk.sessions t.mid.sessions new.talk.sessions
-    (heard-rests (said.Flow flow) tt old.talk channel t.heard frames t.mid t.answered)
-    (flow-comes (session_of t.heard) frames t.mid new.talk old.links new.links t.leave)
-frame-rests (body.Flow flow) other old new limit channel frames events (inr f, g) =
-    fails-stay (said.Flow flow) old.talk new.talk f.number f.fault f.session frames channel f.answered
+frame-rests (body.Flow flow) other old new limit channel frames events (h, g) =
+    all-on old.talk.sessions h.ready.sessions new.talk.sessions (room-rests old.talk channel h.ready h.makes_room)
+    (flow-rests h.ready old.links limit channel flow frames events new.talk new.links h.hears)
 frame-rests (body.Transfer transfer payload) other old new limit channel frames events h = absurd other
 frame-rests (body.Disposition disposition) other old new limit channel frames events (inl t, g) =
     all-on old.talk.sessions t.mid.sessions new.talk.sessions
@@ -259,7 +273,7 @@ attach-goes attach old new limit channel frames events (a, g) n =
         attaches-on attach (live_at a.ready.sessions n) (live_at t.mid.sessions n) (live_at new.talk.sessions n)
         (heard-attaches attach a.named a.ready old.links channel t.heard [] t.mid
         (room-named old.talk channel a.ready made old.links attach a.named a.is_named) t.answered n)
-        (attach-follows t.heard frames t.mid new.talk
+        (follows (session_heard t.heard) frames t.mid new.talk
         (becomes-behind limit (opened_in a.ready (attach_of t.heard) a.named) t.heard a.named t.mid attach frames events
         new.talk t.becomes)
         n)

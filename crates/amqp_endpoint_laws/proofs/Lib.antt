@@ -38,7 +38,12 @@ mod HoldingWaits
 mod LeadingStill
 mod HoldingInside
 mod HoldingDone
+mod Behind
 mod BehindAttach
+mod BehindFlow
+mod FlowStays
+mod QueuedFlow
+mod QueuedGiven
 mod AttachedBehind
 mod HoldingAttached
 mod RoomMade

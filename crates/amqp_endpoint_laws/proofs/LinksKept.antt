@@ -207,10 +207,11 @@ module _ (P : Links → Type 0) (allows : ℕ → Type 0)
   heard (body.Attach attach) old new links links_new given given_new limit channel frames events (a, g) came =
       elim a.hears
       [ inl t ↦ same links links_new came t.same | inr f ↦ back links links_new came _ f.back ]
-  heard (body.Flow flow) old new links links_new given given_new limit channel frames events (inl t, g) came =
-      heard-flow (session_of t.heard) frames t.mid new links links_new t.leave came
-  heard (body.Flow flow) old new links links_new given given_new limit channel frames events (inr f, g) came =
-      back links links_new came _ f.back
+  heard (body.Flow flow) old new links links_new given given_new limit channel frames events (h, g) came =
+      elim h.hears [
+        | inl t ↦ heard-flow (session_of t.heard) t.first t.mid t.left links links_new t.leave came
+        | inr f ↦ back links links_new came _ f.back
+      ]
   heard (body.Transfer transfer payload) old new links links_new given given_new limit channel frames events
       (inl t) came =
       same links links_new came t.same

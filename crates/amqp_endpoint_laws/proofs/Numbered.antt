@@ -52,6 +52,11 @@ use Rattle.amqp_endpoint_link_hearing.specs.Unechoed.{RefusedIf, Refuses, is_ref
 use Rattle.amqp_endpoint.specs.Hearing.{Hears}
 use Rattle.amqp_endpoint_laws.specs.Telling.{numbers_told}
 use Rattle.amqp_endpoint_laws.proofs.Unnumbered.{Unnumbered, both-unnumbered, by-unnumbered, first-unnumbered}
+use Rattle.amqp_endpoint_link_hearing.specs.Heard.{session_of}
+use Rattle.amqp_endpoint_link_hearing.specs.Flowing.{SendsOnAt, SendsOnBy, SendsOnWith, named_in}
+use Rattle.amqp_endpoint_messages.specs.SendingOn.{ClosesWhere}
+use Rattle.amqp_link_sender.specs.declared.sending_on.PreparedSendOn.{PreparedSendOn}
+use Rattle.amqp_session_types.specs.declared.handles.Handle.{Handle}
 use Rattle.amqp_endpoint_laws.proofs.Unnumbered.{reached-unnumbered}
 
 -- where so many messages were handed out before, and behind that so many
@@ -118,6 +123,34 @@ attach-becomes limit count (heard.Live session (taken.Attach (answer.ByLink by_l
     frames events new b =
     attach-taken (attaching.outcome_of by_link) limit session count handle b.link old frames events new b.takes
 attach-becomes limit count it named old attach frames events new b = told-unnumbered events [] b.1 refl
+
+-- what is told behind a Flow
+where-unnumbered : (stuck : Option EndpointError) (session count : ℕ) (handle : OutputHandle) (why : Error)
+    (frames : List SessionFrame) (events : List Event) (old new : Linked)
+    → ClosesWhere stuck session count handle why frames events old new → Unnumbered events
+where-unnumbered None session count handle why frames events old new c = told-unnumbered events [] c.1 refl
+where-unnumbered (Some error) session count handle why frames events old new c =
+    closed-unnumbered session error count handle why frames events old new c
+
+with-unnumbered : (ons : List PreparedSendOn) (limit session count : ℕ) (handle : OutputHandle) (old : Talk)
+    (frames : List SessionFrame) (events : List Event) (new : Talk)
+    → SendsOnWith ons limit session count handle old frames events new → Unnumbered events
+with-unnumbered [] limit session count handle old frames events new s = told-unnumbered events [] s.1 refl
+with-unnumbered (ready ∷ others) limit session count handle old frames events new g =
+    let c = g.done in
+    where-unnumbered c.stuck session count handle _ c.down events c.gone g.after.value c.closes
+
+at-unnumbered : (limit session : ℕ) (own : Option ℕ) (old : Talk) (frames : List SessionFrame) (events : List Event)
+    (new : Talk) → SendsOnAt limit session own old frames events new → Unnumbered events
+at-unnumbered limit session None old frames events new s = told-unnumbered events [] s.1 refl
+at-unnumbered limit session (Some own) old frames events new s =
+    with-unnumbered _ limit session _ (record { 0 = own }) old frames events new s
+
+flow-unnumbered : (limit : ℕ) (took : Option ℕ) (named : Option Handle) (old : Talk) (frames : List SessionFrame)
+    (events : List Event) (new : Talk) → SendsOnBy limit took named old frames events new → Unnumbered events
+flow-unnumbered limit None named old frames events new s = told-unnumbered events [] s.1 refl
+flow-unnumbered limit (Some session) named old frames events new s =
+    at-unnumbered limit session (named_in old session named) old frames events new s
 
 transfer-comes : (it_told : Told) (old mid new : Talk) (given session : ℕ) (it : Transfer)
     (frames : List SessionFrame) (events : List Event) (given_new : ℕ)
@@ -198,10 +231,11 @@ gives-next (body.Attach attach) old new links links_new given given_new limit ch
       )
       | inr f ↦ inl (told-unnumbered events _ f.told refl, g)
     ]
-gives-next (body.Flow flow) old new links links_new given given_new limit channel frames events (inl t, g) =
-    inl (told-unnumbered events [] t.told refl, g)
-gives-next (body.Flow flow) old new links links_new given given_new limit channel frames events (inr f, g) =
-    inl (told-unnumbered events _ f.told refl, g)
+gives-next (body.Flow flow) old new links links_new given given_new limit channel frames events (h, g) =
+    elim h.hears [
+      | inl t ↦ inl (flow-unnumbered limit (session_of t.heard) flow.handle t.left t.behind events new t.sends_on, g)
+      | inr f ↦ inl (told-unnumbered events _ f.told refl, g)
+    ]
 gives-next (body.Transfer transfer payload) old new links links_new given given_new limit channel frames events
     (inl t) =
     transfer-becomes _ old t.mid new given transfer frames events given_new t.becomes

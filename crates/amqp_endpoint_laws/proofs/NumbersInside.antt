@@ -38,7 +38,7 @@ use Rattle.amqp_endpoint_link_hearing.specs.InSession.{AnswersIf, Closes, Closes
 use Rattle.amqp_endpoint_link_hearing.specs.Transferring.{Remembers, StandsAgain, remembering}
 use Rattle.amqp_endpoint_laws.specs.Held.{number_in}
 use Rattle.amqp_endpoint_laws.proofs.AttachedBehind.{allocates, goes, roomed}
-use Rattle.amqp_endpoint_laws.proofs.BehindAttach.{behind-numbers}
+use Rattle.amqp_endpoint_laws.proofs.Behind.{behind-numbers}
 use Rattle.amqp_endpoint_laws.proofs.Numbers.{KeepNumbers, Placed, kept-on, placed, same-kept, step-kept}
 
 -- a session that stays

@@ -1,5 +1,5 @@
 -- What passes in a session as its peer says something in it.
-use Rattle.std.proofs.Common.{◌≡◌, inl, inr, ℕ, Bool, true, false, List, [], ◌∷◌, ◌++◌, Option, Some, None}
+use Rattle.std.proofs.Common.{◌≡◌, ◌⊎◌, inl, inr, ℕ, Bool, true, false, List, [], ◌∷◌, ◌++◌, Option, Some, None}
 use Rattle.std.proofs.Common.{Ok, Err, ap, append-nil, refl, sym, subst, ◌∙◌}
 use Rattle.std.specs.Prelude.{if◌then◌else◌, option_to_list}
 use Rattle.std.specs.Global.{Box}
@@ -50,7 +50,7 @@ use Rattle.amqp_endpoint_link_hearing.specs.Attaching.{HearsAttach, HearsReady, 
 use Rattle.amqp_endpoint_link_hearing.specs.Detaching as detaching
 use Rattle.amqp_endpoint_link_hearing.specs.Disposing as disposing
 use Rattle.amqp_endpoint_link_hearing.specs.Disposing.{runs_of}
-use Rattle.amqp_endpoint_link_hearing.specs.Flowing.{LetsGo}
+use Rattle.amqp_endpoint_link_hearing.specs.Flowing.{HearsCredited, HearsFlow, LetsGo}
 use Rattle.amqp_endpoint_link_hearing.specs.Heard.{attach_of, detach_of, session_of}
 use Rattle.amqp_endpoint_link_hearing.specs.InSession.{GoesOn}
 use Rattle.amqp_endpoint_link_hearing.specs.Saying.{LinkHeard}
@@ -70,11 +70,14 @@ use Rattle.amqp_endpoint_conversation.proofs.Inside.{alike-inside, both-on, said
 use Rattle.amqp_endpoint_laws.specs.Passed.{begun_by, session_taking}
 use Rattle.amqp_endpoint_laws.proofs.AskedCameInside.{behind-keeps, closes-keeps, echoes-keep, leave-keeps, parts-keep}
 use Rattle.amqp_endpoint_laws.proofs.AskedCameInside.{remembers-keeps, told-keeps}
-use Rattle.amqp_endpoint_laws.proofs.BehindAttach.{Behind, Follows, becomes-behind, behind-gives-up, behind-inside}
-use Rattle.amqp_endpoint_laws.proofs.BehindAttach.{goes-so, number_of, room-behind}
+use Rattle.amqp_endpoint_laws.proofs.Behind.{FollowsBy, behind-inside, goes-so, room-behind}
+use Rattle.amqp_endpoint_laws.proofs.BehindAttach.{Behind, Follows, becomes-behind, behind-gives-up, number_of}
+use Rattle.amqp_endpoint_laws.proofs.BehindFlow.{Any, SendsOrNot, flow-sends, sends-behind}
+use Rattle.amqp_endpoint_laws.proofs.FlowStays.{FlowStays, flow-stays}
 use Rattle.amqp_endpoint_laws.proofs.PassedJudged.{live-begun}
 use Rattle.amqp_endpoint_laws.proofs.PassedPlaces.{KeepsAsked, eq-same}
 use Rattle.amqp_endpoint_laws.proofs.PassedWalk.{Walk}
+use Rattle.amqp_session_performatives.specs.declared.flow.Flow.{Flow}
 use Rattle.amqp_endpoint_laws.proofs.RoomMade.{RoomMade, room-made, room-reached}
 
 -- frames by which no link says anything are to go in a session that goes on, on its channel
@@ -165,6 +168,11 @@ module _ (old new : Linked) (frames more : List SessionFrame) where
       (said-both frames more ∙ ap (λ (fs : List SessionFrame). said_in frames ++ fs) free
       ∙ append-nil (said_in frames))
       (both-on old.session.fields.channel.0 frames more d.on on) d
+
+-- a frame by which messages may be sent on
+abbrev pub IsFlow : FrameBody → Type 0
+IsFlow (body.Flow flow) = Unit {0}
+IsFlow it = ⊥
 
 module _ {Allows : Batches → Type 0} (P : ℕ → List Wired → Talk → Talk → Type 0)
     (Q : Option ℕ → List Wired → Talk → Talk → Type 0) (w : Walk Allows P Q) where
@@ -566,53 +574,127 @@ module _ {Allows : Batches → Type 0} (P : ℕ → List Wired → Talk → Talk
         passed = w.ended channel end t.heard frames old new t.answered;
       })
 
+  -- a Flow, behind which a link may send messages on
+  flow-follows : (number : ℕ) (frames : List SessionFrame) (old new : Talk)
+      → ((accepted : Batches) → Allows accepted) → FollowsBy Any number frames old new
+      → P number (goes frames) old new
+  flow-follows number frames old new may (inl (none, same)) = nothing-passed number frames old new none same
+  flow-follows number frames old new may (inr g) =
+      let before : Linked = g.before.value in
+      let after : Linked = g.after.value in
+      let done = g.done.done in
+      w.inside number (accepted_of done.steps) frames g.before g.after old new (may (accepted_of done.steps)) g.stepped
+      g.rest (behind-inside before.session frames after.session done) (behind-keeps frames before after g.done)
+
+  -- what the session that heard it does before that, with what passes
+  pub record FlowThere (old : Talk) (limit : ℕ) (channel : IncomingChannel) (flow : Flow) (frames : List SessionFrame)
+      (new : Talk) : Type 0 where
+    pub heard : LinkHeard
+    pub first : List SessionFrame
+    pub left : Talk
+    pub there : HeardThere old channel.0 (body.Flow flow) (number_of heard) first left
+    pub behind : List SessionFrame
+    pub sends : SendsOrNot limit (number_of heard) flow.handle left behind new
+    pub stays : FlowStays old channel flow left (number_of heard)
+    pub frames_are : frames ≡ first ++ behind
+
+  -- or it ends by its fault
+  abbrev pub FlowParts : Talk → ℕ → IncomingChannel → Flow → List SessionFrame → Talk → Type 0
+  FlowParts old limit channel flow frames new =
+      FlowThere old limit channel flow frames new
+      ⊎ ((session : ℕ) × HeardThere old channel.0 (body.Flow flow) session frames new)
+
+  pub flow-parts : (old : Talk) (links : Links) (limit : ℕ) (channel : IncomingChannel) (flow : Flow)
+      (frames : List SessionFrame) (events : List Event) (new : Talk) (links_new : Links)
+      → HearsFlow old links limit channel flow frames events new links_new
+      → FlowParts old limit channel flow frames new
+  flow-parts old links limit channel flow frames events new links_new h = by h.hears
+    where
+      by : HearsCredited h.ready links limit channel flow frames events new links_new
+          → FlowParts old limit channel flow frames new
+      by (inl t) =
+          let n : ℕ = number_of t.heard in
+          let first : HeardThere h.ready channel.0 (body.Flow flow) n (t.first ++ []) t.left =
+          there-on h.ready channel.0 (body.Flow flow) n t.first [] t.mid t.left
+          (heard-ok h.ready channel (said.Flow flow) t.heard t.first t.mid t.answered)
+          (flow-comes t.heard t.first t.mid t.left links links_new t.leave) in
+          inl (record {
+            heard = t.heard;
+            first = t.first;
+            left = t.left;
+            there =
+                room-there old channel h.ready (body.Flow flow) n t.first t.left h.makes_room
+                (subst (λ (fs : List SessionFrame). HeardThere h.ready channel.0 (body.Flow flow) n fs t.left)
+                (append-nil t.first) first);
+            behind = t.behind;
+            sends = flow-sends limit t.heard flow.handle t.left t.behind events new t.sends_on;
+            stays =
+                flow-stays old links channel flow h.ready h.makes_room t.heard t.first t.mid t.answered t.left
+                links_new t.leave;
+            frames_are = t.frames_are;
+          })
+      by (inr f) =
+          inr (
+            f.number,
+            room-there old channel h.ready (body.Flow flow) f.number frames new h.makes_room
+                (heard-fails h.ready channel (said.Flow flow) f.number f.fault f.session frames new f.answered),
+          )
+
+  flow-heard : (old : Talk) (links : Links) (limit : ℕ) (channel : IncomingChannel) (flow : Flow)
+      (frames : List SessionFrame) (events : List Event) (new : Talk) (links_new : Links)
+      → ((accepted : Batches) → Allows accepted) → HearsFlow old links limit channel flow frames events new links_new
+      → Q (reached old.sessions channel.0) (comes channel.0 (body.Flow flow) ∷ goes frames) old new
+  flow-heard old links limit channel flow frames events new links_new may h =
+      by (flow-parts old links limit channel flow frames events new links_new h)
+    where
+      by : FlowParts old limit channel flow frames new
+          → Q (reached old.sessions channel.0) (comes channel.0 (body.Flow flow) ∷ goes frames) old new
+      by (inl t) =
+          let n : ℕ = number_of t.heard in
+          taken-there old channel.0 (body.Flow flow) n frames new
+          (subst (λ (fs : List SessionFrame). HeardThere old channel.0 (body.Flow flow) n fs new) (sym t.frames_are)
+          (there-on old channel.0 (body.Flow flow) n t.first t.behind t.left new t.there
+          (flow-follows n t.behind t.left new may (sends-behind limit n flow.handle t.left t.behind new t.sends))))
+      by (inr (session, there)) = taken-there old channel.0 (body.Flow flow) session frames new there
+
   -- whatever the peer says
   pub frame-heard : (it : FrameBody) (old new : LinkedSessions) (limit : ℕ) (channel : IncomingChannel)
-      (frames : List SessionFrame) (events : List Event)
+      (frames : List SessionFrame) (events : List Event) → (IsFlow it → (accepted : Batches) → Allows accepted)
       → HearsFrame old.talk old.links old.given limit channel it frames events new.talk new.links new.given
       → Q (session_taking old channel.0 it) (comes channel.0 it ∷ goes frames) old.talk new.talk
-  frame-heard (body.Begin begin) old new limit channel frames events (b, g) =
+  frame-heard (body.Begin begin) old new limit channel frames events may (b, g) =
       begin-heard old.talk channel begin frames new.talk old.links new.links events b
-  frame-heard (body.Attach attach) old new limit channel frames events (a, g) =
+  frame-heard (body.Attach attach) old new limit channel frames events may (a, g) =
       attach-heard old.talk old.links limit channel attach frames events new.talk new.links a
-  frame-heard (body.Flow flow) old new limit channel frames events (inl t, g) =
-      taken-there old.talk channel.0 (body.Flow flow) (number_of t.heard) frames new.talk
-      (subst (λ (fs : List SessionFrame). HeardThere old.talk channel.0 (body.Flow flow) (number_of t.heard) fs
-      new.talk)
-      (append-nil frames)
-      (there-on old.talk channel.0 (body.Flow flow) (number_of t.heard) frames [] t.mid new.talk
-      (heard-ok old.talk channel (said.Flow flow) t.heard frames t.mid t.answered)
-      (flow-comes t.heard frames t.mid new.talk old.links new.links t.leave)))
-  frame-heard (body.Flow flow) old new limit channel frames events (inr f, g) =
-      taken-there old.talk channel.0 (body.Flow flow) f.number frames new.talk
-      (heard-fails old.talk channel (said.Flow flow) f.number f.fault f.session frames new.talk f.answered)
-  frame-heard (body.Transfer transfer payload) old new limit channel frames events (inl t) =
+  frame-heard (body.Flow flow) old new limit channel frames events may (h, g) =
+      flow-heard old.talk old.links limit channel flow frames events new.talk new.links (may tt) h
+  frame-heard (body.Transfer transfer payload) old new limit channel frames events may (inl t) =
       taken-there old.talk channel.0 (body.Transfer transfer payload) (number_of t.heard) frames new.talk
       (there-on old.talk channel.0 (body.Transfer transfer payload) (number_of t.heard) [] frames t.mid new.talk
       (heard-ok old.talk channel (said.Transfer transfer payload) t.heard [] t.mid t.answered)
       (transfer-comes old.talk channel transfer payload t.mid new.talk old.given frames events new.given t.heard
       t.answered t.becomes))
-  frame-heard (body.Transfer transfer payload) old new limit channel frames events (inr f) =
+  frame-heard (body.Transfer transfer payload) old new limit channel frames events may (inr f) =
       taken-there old.talk channel.0 (body.Transfer transfer payload) f.fails.number frames new.talk
       (heard-fails old.talk channel (said.Transfer transfer payload) f.fails.number f.fails.fault f.fails.session frames
       new.talk f.fails.answered)
-  frame-heard (body.Disposition disposition) old new limit channel frames events (inl t, g) =
+  frame-heard (body.Disposition disposition) old new limit channel frames events may (inl t, g) =
       taken-there old.talk channel.0 (body.Disposition disposition) (number_of t.heard) frames new.talk
       (there-on old.talk channel.0 (body.Disposition disposition) (number_of t.heard) [] frames t.mid new.talk
       (heard-ok old.talk channel (said.Disposition disposition) t.heard [] t.mid t.answered)
       (disposition-comes t.heard limit old.talk t.mid new.talk disposition frames events t.follows))
-  frame-heard (body.Disposition disposition) old new limit channel frames events (inr f, g) =
+  frame-heard (body.Disposition disposition) old new limit channel frames events may (inr f, g) =
       taken-there old.talk channel.0 (body.Disposition disposition) f.number frames new.talk
       (heard-fails old.talk channel (said.Disposition disposition) f.number f.fault f.session frames new.talk
       f.answered)
-  frame-heard (body.Detach detach) old new limit channel frames events (inl t, g) =
+  frame-heard (body.Detach detach) old new limit channel frames events may (inl t, g) =
       taken-there old.talk channel.0 (body.Detach detach) (number_of t.heard) frames new.talk
       (there-on old.talk channel.0 (body.Detach detach) (number_of t.heard) [] frames t.mid new.talk
       (heard-ok old.talk channel (said.Detach detach) t.heard [] t.mid t.answered)
       (detach-comes t.heard limit old.talk t.mid new.talk old.links new.links detach frames events t.becomes))
-  frame-heard (body.Detach detach) old new limit channel frames events (inr f, g) =
+  frame-heard (body.Detach detach) old new limit channel frames events may (inr f, g) =
       taken-there old.talk channel.0 (body.Detach detach) f.number frames new.talk
       (heard-fails old.talk channel (said.Detach detach) f.number f.fault f.session frames new.talk f.answered)
-  frame-heard (body.End end) old new limit channel frames events (t, g) =
+  frame-heard (body.End end) old new limit channel frames events may (t, g) =
       end-heard old.talk old.links channel end frames events new.talk new.links t
-  frame-heard it old new limit channel frames events h = absurd h
+  frame-heard it old new limit channel frames events may h = absurd h

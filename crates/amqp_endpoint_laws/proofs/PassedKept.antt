@@ -54,7 +54,7 @@ use Rattle.amqp_endpoint_conversation.specs.Windows.{Came, Passing, went}
 use Rattle.amqp_endpoint_laws.specs.Conversing.{SessionsAct}
 use Rattle.amqp_endpoint_laws.specs.Passed.{PassesIn, called_in, passes_in, session_taking}
 use Rattle.amqp_endpoint_laws.proofs.PassedCalled.{IsSend, called}
-use Rattle.amqp_endpoint_laws.proofs.PassedHeard.{frame-heard}
+use Rattle.amqp_endpoint_laws.proofs.PassedHeard.{IsFlow, frame-heard}
 use Rattle.amqp_endpoint_laws.proofs.PassedJudged.{AllPassedBy, PassedBy, attach-judged, coming-judged}
 use Rattle.amqp_endpoint_laws.proofs.PassedJudged.{going-judged, judging}
 use Rattle.amqp_endpoint_laws.proofs.PassedPlaces.{AllPassed, IsGone, Keeping, eq-same}
@@ -265,7 +265,10 @@ first-body (body.Attach attach) old new links given limit channel e (inl b) =
     first-answered b.ready channel _ (Err b.bars.refusal) new b.bars.frames b.bars.answered
     ∙ first-room old channel b.ready (room-made b.named old channel b.ready b.makes_room)
 first-body (body.Attach attach) old new links given limit channel e (inr u) = first-same old new u.1
-first-body (body.Flow flow) old new links given limit channel e r = first-said old channel _ e new r
+first-body (body.Flow flow) old new links given limit channel e (inl b) =
+    first-answered b.ready channel _ (Err b.bars.refusal) new b.bars.frames b.bars.answered
+    ∙ first-room old channel b.ready b.makes_room
+first-body (body.Flow flow) old new links given limit channel e (inr u) = first-same old new u.1
 first-body (body.Transfer transfer payload) old new links given limit channel e (inl u) = first-same old new u.stays
 first-body (body.Transfer transfer payload) old new links given limit channel e (inr (inl r)) =
     first-said old channel _ e new r
@@ -294,9 +297,10 @@ closed-still : (own : Bool) (old told : LinkedSessions) → SendsClose linked ow
 closed-still true old told same = subst (AreStill old) (sym same) (refl, refl)
 closed-still false old told m = subst (AreStill old) (sym m.is) (refl, refl)
 
--- a deed by which a message is sent
+-- a deed by which a message is sent, or may be sent on
 abbrev pub IsSending : Deed → Type 0
 IsSending (Does limit it answer frames) = IsSend it
+IsSending (Takes limit frame frames events) = IsFlow frame.body
 IsSending deed = ⊥
 
 module _ {Allows : Batches → Type 0} (J : ℕ → Option Stood → List Passing → Option Stood → Type 0)
@@ -348,12 +352,13 @@ module _ {Allows : Batches → Type 0} (J : ℕ → Option Stood → List Passin
   still-judges old new n same = k.still _ _ _ (ap (λ (ps : List Stood). slice_get ps n) same)
 
   taken-judges : (limit : ℕ) (f : Frame) (frames : List SessionFrame) (events : List Event) (old new : LinkedSessions)
+      → (IsFlow f.body → (accepted : Batches) → Allows accepted)
       → linked.takes old limit f.channel f.body frames events new
       → AllPassed J k (session_taking old f.channel f.body) (Came f.body ∷ went frames) old.talk new.talk
-  taken-judges limit f frames events old new h =
+  taken-judges limit f frames events old new may h =
       coming-judged J k (session_taking old f.channel f.body) frames old.talk new.talk f.channel f.body
       (frame-heard (PassedBy J k) (AllPassedBy J k) (judging J k) f.body old new limit (record { 0 = f.channel }) frames
-      events h.0)
+      events may h.0)
 
   call-judges : (limit : ℕ) (it : Call) (answer : Said) (frames : List SessionFrame) (old new : LinkedSessions)
       → (IsSend it → (accepted : Batches) → Allows accepted) → linked.calls old limit it answer frames new
@@ -372,7 +377,7 @@ module _ {Allows : Batches → Type 0} (J : ℕ → Option Stood → List Passin
   deed-judges (Hears frame events) old new may (moves, told) n =
       still-judges old new n (by-frame-still frame.body old new moves).0
   deed-judges (Takes limit f frames events) old new may h n =
-      (taken-judges limit f frames events old new h).all n
+      (taken-judges limit f frames events old new may h).all n
   deed-judges (Refuses limit f error own_close) old new may e n =
       ends-judges limit f error own_close old new e n
   deed-judges (Does limit it answer frames) old new may c n =
@@ -394,7 +399,7 @@ module _ {Allows : Batches → Type 0} (J : ℕ → Option Stood → List Passin
   deed-first (Queues it) old new may same = ap (λ (s : LinkedSessions). s.talk.first_transfer_number) same
   deed-first (Hears frame events) old new may (moves, told) = (by-frame-still frame.body old new moves).1
   deed-first (Takes limit f frames events) old new may h =
-      (taken-judges limit f frames events old new h).first
+      (taken-judges limit f frames events old new may h).first
   deed-first (Refuses limit f error own_close) old new may e = ends-first limit f error own_close old new e
   deed-first (Does limit it answer frames) old new may c = (call-judges limit it answer frames old new may c).first
   deed-first (Moves connection) old new may m = ap (λ (s : LinkedSessions). s.talk.first_transfer_number) m.1

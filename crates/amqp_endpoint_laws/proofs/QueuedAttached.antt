@@ -34,7 +34,8 @@ use Rattle.amqp_endpoint_tables.proofs.Owning.{at}
 use Rattle.amqp_endpoint_conversation.specs.Windows.{Passing, went}
 use Rattle.amqp_endpoint_laws.specs.Passed.{PassesIn, sent_in}
 use Rattle.amqp_endpoint_laws.specs.Resumed.{NeverResumed}
-use Rattle.amqp_endpoint_laws.specs.Queued.{AttachesFirst, SayMessages, messages_by, pieces_on, pieces_waiting, queued}
+use Rattle.amqp_endpoint_laws.specs.Held.{number_at}
+use Rattle.amqp_endpoint_laws.specs.Queued.{AttachesFirst, SayAll, pieces_on, pieces_waiting, queued}
 use Rattle.amqp_endpoint_laws.proofs.AttachedBehind.{AttachesInside, allocates, attaches-inside, roomed}
 use Rattle.amqp_endpoint_laws.proofs.GivenUp.{AllAborted, aborted-first, aborted-later}
 use Rattle.amqp_endpoint_laws.proofs.LinksKept.{BackGoesOn, FinishedGoesOn, LeftGoesOn}
@@ -97,6 +98,17 @@ HandlesApart =
     → IsNew linked settings sessions → AreDone linked sessions deeds s → link_place s.links a ≡ Some (Held n h)
     → link_place s.links b ≡ Some (Held n h) → a ≡ b
 
+-- each that a session holds stands in it under its handle
+abbrev pub HandlesStand : Type 0
+HandlesStand =
+    (sessions s : LinkedSessions) (settings : Settings) (deeds : List Deed) (link n : ℕ) (h : OutputHandle)
+    → IsNew linked settings sessions → AreDone linked sessions deeds s → link_place s.links link ≡ Some (Held n h)
+    → number_at s.talk.sessions n h.0 ≡ Some link
+
+pub reached-stands : HandlesStand → (s : LinkedSessions) → Reached s → (link n : ℕ) (h : OutputHandle)
+    → link_place s.links link ≡ Some (Held n h) → number_at s.talk.sessions n h.0 ≡ Some link
+reached-stands stand s r link n h = stand r.sessions s r.settings r.deeds link n h r.fresh r.done
+
 pub reached-apart : HandlesApart → (s : LinkedSessions) → Reached s → (a b n : ℕ) (h : OutputHandle)
     → link_place s.links a ≡ Some (Held n h) → link_place s.links b ≡ Some (Held n h) → a ≡ b
 reached-apart apart s r a b n h = apart r.sessions s r.settings r.deeds a b n h r.fresh r.done
@@ -114,7 +126,8 @@ module _ (old new : LinkedSessions) (limit number : ℕ) (it : End) (link : ℕ)
       (eq-same a.placed.link) in
       (ap (λ (k : ℕ). slot_at old.links k) a.numbered ∙ none, ap (λ (k : ℕ). slot_at new.links k) a.numbered ∙ some)
 
-module _ (handles_apart : HandlesApart) (back_on : BackGoesOn) (left_on : LeftGoesOn) (finished_on : FinishedGoesOn)
+module _ (handles_apart : HandlesApart) (handles_stand : HandlesStand) (back_on : BackGoesOn) (left_on : LeftGoesOn)
+    (finished_on : FinishedGoesOn)
   where
     module _ (sessions old new end : LinkedSessions) (settings : Settings) (before since_then : List Deed)
         (number link limit : ℕ) (it : End) (events : List Event) (frames : List SessionFrame) (deed : Deed)
@@ -234,14 +247,21 @@ module _ (handles_apart : HandlesApart) (back_on : BackGoesOn) (left_on : LeftGo
             (record { sessions = sessions; settings = settings; deeds = before; fresh = fresh; done = done })
 
         pub says-all : (session : Session) → live_at end.talk.sessions number ≡ Some session
-            → SayMessages (queued handle passings session.value.session) (messages_by link since_then)
+            → SayAll link new since_then end (queued handle passings session.value.session)
         says-all session live =
             let all =
-            since Reached reached-on (reached-apart handles_apart) back_on left_on finished_on link number handle
-            since_then new end passings never reached-new passes is-entered held [] [] says-first in
+            since Reached reached-on (reached-apart handles_apart) (reached-stands handles_stand) back_on left_on
+            finished_on link number handle since_then new end passings never reached-new passes is-entered held [] []
+            says-first in
+            let s = all.says in
             let q =
-            queued-here handle.0 all.accepted (place_at end.talk.sessions number) passings session live all.queued in
-            says-bare (queued handle passings session.value.session) all.accepted (messages_by link since_then)
-            (map-both bare (pieces_on handle.0 (sent_in passings)) (pieces_waiting handle.0 session.value.session)
-            ∙ q.order)
-            all.says
+            queued-here handle.0 s.accepted (place_at end.talk.sessions number) passings session live s.queued in
+            record {
+              messages = all.more;
+              are = all.are;
+              say =
+                  says-bare (queued handle passings session.value.session) s.accepted all.more
+                  (map-both bare (pieces_on handle.0 (sent_in passings)) (pieces_waiting handle.0 session.value.session)
+                  ∙ q.order)
+                  s.says;
+            }

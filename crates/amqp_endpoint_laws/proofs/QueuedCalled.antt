@@ -23,14 +23,13 @@ use Rattle.amqp_endpoint_tables.specs.State.{live_at}
 use Rattle.amqp_endpoint_conversation.specs.Windows.{Passing}
 use Rattle.amqp_endpoint_laws.specs.Opening.{OpensBy, those_behind}
 use Rattle.amqp_endpoint_laws.specs.Passed.{PassesIn}
-use Rattle.amqp_endpoint_laws.specs.Queued.{Message, SayMessages, SaysSince, message_done, messages_by, messages_done}
-use Rattle.amqp_endpoint_laws.specs.Queued.{queued}
+use Rattle.amqp_endpoint_laws.specs.Queued.{Message, SaysSince, message_done, messages_by, messages_done}
 use Rattle.amqp_endpoint_laws.specs.Resumed.{NeverCalledAgain, NeverResumed}
 use Rattle.amqp_endpoint_laws.proofs.Again.{never-resumed}
 use Rattle.amqp_endpoint_laws.proofs.LinksKept.{BackGoesOn, FinishedGoesOn, LeftGoesOn}
 use Rattle.amqp_endpoint_laws.proofs.Opening.{opened}
 use Rattle.amqp_endpoint_laws.proofs.PassedKept.{some-passes}
-use Rattle.amqp_endpoint_laws.proofs.QueuedAttached.{HandlesApart, says-all}
+use Rattle.amqp_endpoint_laws.proofs.QueuedAttached.{HandlesApart, HandlesStand, says-all}
 
 -- the messages of deeds are those of the calls that they do
 pub messages-done : (link : ℕ) (deeds : List Deed) → messages_by link deeds ≡ messages_done link (done_by deeds)
@@ -107,6 +106,7 @@ done-first (deed ∷ before) since old new (next, one, rest) =
     let (mid, first, others) = done-first before since next new rest in (mid, (next, one, first), others)
 
 module _ (back_on : BackGoesOn) (left_on : LeftGoesOn) (finished_on : FinishedGoesOn) (handles_apart : HandlesApart)
+    (handles_stand : HandlesStand)
     (sessions : LinkedSessions) (settings : Settings) (calls : List Call) (told : List Told)
     (end : State LinkedSessions) (link n number : ℕ) (it : Call) (answer : Said) (handle : OutputHandle)
     (session : Session) (new : IsNew linked settings sessions)
@@ -119,7 +119,7 @@ module _ (back_on : BackGoesOn) (left_on : LeftGoesOn) (finished_on : FinishedGo
 
   abbrev SaysIt : DidSo → Type 0
   SaysIt did =
-      SaysSince sessions (did.before ++ did.since) number it answer handle end.sessions session
+      SaysSince sessions (did.before ++ did.since) number link it answer handle end.sessions session
       (messages_done link (those_behind n (calls_done calls told)))
 
   -- the messages are all those of the run behind the call
@@ -153,12 +153,11 @@ module _ (back_on : BackGoesOn) (left_on : LeftGoesOn) (finished_on : FinishedGo
           attached = one;
           passings = passings;
           passes = passes;
+          by_calls = sym messages-since;
           says =
-              subst (λ (ms : List Message). SayMessages (queued handle passings session.value.session) ms)
-              (sym messages-since)
-              (says-all handles_apart back_on left_on finished_on sessions old next end.sessions settings a.before
-              a.since number link o.limit o.it o.events a.frames deed passings handle new came o.placed one passes held
-              never-since session live);
+              says-all handles_apart handles_stand back_on left_on finished_on sessions old next end.sessions settings
+              a.before a.since number link o.limit o.it o.events a.frames deed passings handle new came o.placed one
+              passes held never-since session live;
         }
 
   pub says-called : slice_get (calls_done calls told) n ≡ Some (it, answer)

@@ -62,7 +62,7 @@ module _ (old : Talk) (channel : IncomingChannel) (new : Talk) where
   room-reached (inr m) c =
       reached-alike m.number m.made.before m.made.after old.sessions new.sessions m.made.stepped c
 
-  room-alike : {X : Type 0} (f : Option Session → X)
+  pub room-alike : {X : Type 0} (f : Option Session → X)
       → ((before after : Session) → HasRoom before after → f (Some after) ≡ f (Some before))
       → RoomMade old channel new → (n : ℕ) → f (live_at new.sessions n) ≡ f (live_at old.sessions n)
   room-alike f alike (inl same) n = ap (λ (t : Talk). f (live_at t.sessions n)) same

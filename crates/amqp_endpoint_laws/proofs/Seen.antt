@@ -121,7 +121,8 @@ deed-seen old new (Hears frame events) on own stands (moves, told) =
 deed-seen old new (Takes limit frame frames events) on own stands h =
     let at : SeenAt (session_taking old frame.channel frame.body) (comes frame.channel frame.body ∷ goes frames)
     old.talk new.talk =
-    frame-heard SeenIn SeenAt seeing frame.body old new limit (record { 0 = frame.channel }) frames events h.0 in
+    frame-heard SeenIn SeenAt seeing frame.body old new limit (record { 0 = frame.channel }) frames events
+    (λ flows accepted. tt) h.0 in
     record {
       follows = at.follows stands;
       reads = λ base number r agrees speaks.

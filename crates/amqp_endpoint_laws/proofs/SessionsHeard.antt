@@ -45,15 +45,19 @@ use Rattle.amqp_endpoint_link_hearing.specs.Heard.{attach_of, session_of}
 use Rattle.amqp_endpoint_link_hearing.specs.Attaching.{HearsAttach, HearsReady, opened_in}
 use Rattle.amqp_endpoint_link_hearing.specs.Detaching as detaching
 use Rattle.amqp_endpoint_link_hearing.specs.Disposing as disposing
-use Rattle.amqp_endpoint_link_hearing.specs.Flowing.{LetsGo}
+use Rattle.amqp_endpoint_link_hearing.specs.Flowing.{HearsCredited, HearsFlow, LetsGo}
 use Rattle.amqp_endpoint_link_hearing.specs.InSession.{GoesOn}
 use Rattle.amqp_endpoint_link_hearing.specs.Saying.{LinkHeard, LinkRefusal, RefusesSaid}
 use Rattle.amqp_endpoint_link_hearing.specs.Transferring as transferring
 use Rattle.amqp_endpoint_link_hearing.specs.Transferring.{Comes, RemembersUnless}
 use Rattle.amqp_endpoint_link_hearing.proofs.Barrings.{refuses-by}
 use Rattle.amqp_endpoint.specs.Hearing.{Hears, RefusesBody}
-use Rattle.amqp_endpoint_laws.proofs.BehindAttach.{Follows, becomes-behind, number_of}
+use Rattle.amqp_endpoint_laws.proofs.Behind.{FollowsBy}
+use Rattle.amqp_endpoint_laws.proofs.BehindAttach.{becomes-behind, number_of}
+use Rattle.amqp_endpoint_laws.proofs.BehindFlow.{flow-behind}
 use Rattle.amqp_endpoint_laws.proofs.RoomMade.{RoomMade, room-made}
+use Rattle.amqp_session_core.specs.Batch.{Transfers}
+use Rattle.amqp_session_performatives.specs.declared.flow.Flow.{Flow}
 use Rattle.amqp_endpoint_laws.proofs.SessionsGoing.{Go, goes-by, goes-on, stays}
 
 abbrev pub TalkGoes : Talk → Talk → Type 0
@@ -161,10 +165,10 @@ room-goes : (old : Talk) (channel : IncomingChannel) (new : Talk) → RoomMade o
 room-goes old channel new (inl same) = talk-stays old new same
 room-goes old channel new (inr m) = in-session _ old m.number new m.made
 
-attach-follows : (it : LinkHeard) (frames : List SessionFrame) (old new : Talk) → Follows it frames old new
-    → TalkGoes old new
-attach-follows it frames old new (inl (none, same)) = talk-stays old new same
-attach-follows it frames old new (inr g) = in-session _ old (number_of it) new g
+follows : {Such : Transfers → Type 0} (number : ℕ) (frames : List SessionFrame) (old new : Talk)
+    → FollowsBy Such number frames old new → TalkGoes old new
+follows number frames old new (inl (none, same)) = talk-stays old new same
+follows number frames old new (inr g) = in-session _ old number new g
 
 attach-heard : (old : Talk) (links : Links) (limit : ℕ) (channel : IncomingChannel) (attach : Attach)
     (frames : List SessionFrame) (events : List Event) (new : Talk) (links_new : Links)
@@ -178,7 +182,7 @@ attach-heard old links limit channel attach frames events new links_new a =
     by (inl t) =
         goes-on a.ready.sessions t.mid.sessions new.sessions
         (answered a.ready [] channel _ (Ok t.heard) t.mid [] t.answered)
-        (attach-follows t.heard frames t.mid new
+        (follows (number_of t.heard) frames t.mid new
         (becomes-behind limit (opened_in a.ready (attach_of t.heard) a.named) t.heard a.named t.mid attach frames events
         new t.becomes))
     by (inr f) = answered a.ready [] channel _ _ new frames f.answered
@@ -210,6 +214,22 @@ flow-lets-go : (took : Option ℕ) (frames : List SessionFrame) (mid new : Talk)
     → LetsGo took frames mid links new links_new → TalkGoes mid new
 flow-lets-go None frames mid new links links_new l = talk-stays mid new l.0
 flow-lets-go (Some session) frames mid new links links_new g = in-session _ mid session new g
+
+flow-heard : (old : Talk) (links : Links) (limit : ℕ) (channel : IncomingChannel) (flow : Flow)
+    (frames : List SessionFrame) (events : List Event) (new : Talk) (links_new : Links)
+    → HearsFlow old links limit channel flow frames events new links_new → TalkGoes old new
+flow-heard old links limit channel flow frames events new links_new h =
+    goes-on old.sessions h.ready.sessions new.sessions (room-goes old channel h.ready h.makes_room) (by h.hears)
+  where
+    by : HearsCredited h.ready links limit channel flow frames events new links_new → TalkGoes h.ready new
+    by (inl t) =
+        goes-on h.ready.sessions t.mid.sessions new.sessions
+        (answered h.ready [] channel _ (Ok t.heard) t.mid t.first t.answered)
+        (goes-on t.mid.sessions t.left.sessions new.sessions
+        (flow-lets-go (session_of t.heard) t.first t.mid t.left links links_new t.leave)
+        (follows (number_of t.heard) t.behind t.left new
+        (flow-behind limit t.heard flow.handle t.left t.behind events new t.sends_on)))
+    by (inr f) = answered h.ready [] channel _ _ new frames f.answered
 
 -- the peer's Disposition and Detach
 disposition-follows : (runs : Option (ℕ × SmallVec (ℕ × ℕ))) (limit : ℕ) (old mid new : Talk) (it : Disposition)
@@ -249,11 +269,8 @@ heard-goes (body.Begin begin) old new links links_new given given_new limit chan
     begin-heard old links channel begin frames events new links_new b
 heard-goes (body.Attach attach) old new links links_new given given_new limit channel frames events (a, g) =
     attach-heard old links limit channel attach frames events new links_new a
-heard-goes (body.Flow flow) old new links links_new given given_new limit channel frames events (inl t, g) =
-    goes-on old.sessions t.mid.sessions new.sessions (answered old [] channel _ (Ok t.heard) t.mid frames t.answered)
-    (flow-lets-go (session_of t.heard) frames t.mid new links links_new t.leave)
-heard-goes (body.Flow flow) old new links links_new given given_new limit channel frames events (inr f, g) =
-    answered old [] channel _ _ new frames f.answered
+heard-goes (body.Flow flow) old new links links_new given given_new limit channel frames events (h, g) =
+    flow-heard old links limit channel flow frames events new links_new h
 heard-goes (body.Transfer transfer payload) old new links links_new given given_new limit channel frames events
     (inl t) =
     goes-on old.sessions t.mid.sessions new.sessions (answered old [] channel _ (Ok t.heard) t.mid [] t.answered)
@@ -304,7 +321,10 @@ refused-goes (body.Attach attach) old new links given limit channel e (inl b) =
     (room-goes old channel b.ready (room-made b.named old channel b.ready b.makes_room))
     (answered b.ready [] channel _ (Err b.bars.refusal) new b.bars.frames b.bars.answered)
 refused-goes (body.Attach attach) old new links given limit channel e (inr u) = talk-stays old new u.1
-refused-goes (body.Flow flow) old new links given limit channel e r = said-refused old channel _ e new r
+refused-goes (body.Flow flow) old new links given limit channel e (inl b) =
+    goes-on old.sessions b.ready.sessions new.sessions (room-goes old channel b.ready b.makes_room)
+    (answered b.ready [] channel _ (Err b.bars.refusal) new b.bars.frames b.bars.answered)
+refused-goes (body.Flow flow) old new links given limit channel e (inr u) = talk-stays old new u.1
 refused-goes (body.Transfer transfer payload) old new links given limit channel e (inl u) = talk-stays old new u.stays
 refused-goes (body.Transfer transfer payload) old new links given limit channel e (inr (inl r)) =
     said-refused old channel _ e new r

@@ -1,7 +1,13 @@
 -- What a link has queued: its transfers that passed in its session, and those that wait there (part 2, 2.5.6, 2.6.12).
 use Rattle.std.specs.Prelude.{◌≡◌, ◌==◌, ℕ, Bool, List, [], ◌∷◌, ◌++◌, Option, Some, None, if◌then◌else◌, is_some, map}
+use Rattle.std.specs.Prelude.{take}
+use Rattle.amqp_session_types.specs.declared.handles.Handle.{Handle}
 use Rattle.amqp_session_types.specs.declared.handles.OutputHandle.{OutputHandle}
+use Rattle.amqp_session_frames.specs.declared.frame.FrameBody.{FrameBody}
+use Rattle.amqp_session_frames.specs.declared.frame.FrameBody.TheVariants as frame_body
 use Rattle.amqp_session_performatives.specs.declared.attach.Attach.{Attach}
+use Rattle.amqp_session_performatives.specs.declared.flow.Flow.{Flow}
+use Rattle.amqp_session_performatives.specs.declared.link_flow.LinkFlow.{LinkFlow}
 use Rattle.amqp_session_performatives.specs.declared.session_frame.SessionFrame.{SessionFrame}
 use Rattle.amqp_session_performatives.specs.declared.session_frame.SessionFrameBody.{SessionFrameBody}
 use Rattle.amqp_session_performatives.specs.declared.session_frame.SessionFrameBody.TheVariants as body
@@ -9,8 +15,12 @@ use Rattle.amqp_session_outgoing.specs.Queues.{units_of}
 use Rattle.amqp_session_core.specs.State.{State}
 use Rattle.amqp_link_base.specs.Readings.{Piece, nothing, readings}
 use Rattle.amqp_link_base.specs.Said.{Said}
+use Rattle.amqp_link.specs.GoingOn.{sends_on_by}
 use Rattle.amqp_link_sender.specs.Saying.{pieces_of}
-use Rattle.amqp_endpoint_laws.specs.Deeds.{AreDone, Deed, Does, IsDeed}
+use Rattle.amqp_link_sender.specs.declared.sending_on.PreparedSendOn.{PreparedSendOn}
+use Rattle.amqp_endpoint_laws.specs.Deeds.{AreDone, Deed, Does, IsDeed, Takes}
+use Rattle.amqp_endpoint_link_hearing.specs.Flowing.{said_of_link}
+use Rattle.amqp_endpoint_link_hearing.specs.Reached.{link_on}
 use Rattle.amqp_endpoint_model.specs.Said.{Said as Answer, message_sent}
 use Rattle.amqp_endpoint_model.specs.declared.call.Call.{Call}
 use Rattle.amqp_endpoint_model.specs.declared.call.Call.TheVariants.{Send}
@@ -87,6 +97,61 @@ abbrev pub messages_by : ℕ → List Deed → List Message
 messages_by link [] = []
 messages_by link (deed ∷ deeds) = message_in link deed ++ messages_by link deeds
 
+-- a message that is sent on, as its transfers say it: whole, or from where its receiver stands on (part 2, 2.6.13)
+abbrev pub message_on : PreparedSendOn → Message
+message_on ready =
+    record {
+      tag = ready.transfer.delivery_tag;
+      format = ready.transfer.message_format;
+      settled = ready.transfer.settled;
+      payload = ready.payload;
+    }
+
+-- what a Flow lets the link with this number send on, where it names it (part 2, 2.6.7)
+abbrev pub on_of : ℕ → Option Link → LinkFlow → List PreparedSendOn
+on_of link None it = []
+on_of link (Some named) it = if named.number == link then sends_on_by named.link it else []
+
+abbrev pub on_named : ℕ → LinkedSessions → ℕ → Flow → Option Handle → List PreparedSendOn
+on_named link old channel flow None = []
+on_named link old channel flow (Some named) =
+    on_of link (link_on old.talk (record { 0 = channel }) named.0) (said_of_link flow named)
+
+abbrev pub on_by : ℕ → LinkedSessions → ℕ → FrameBody → List PreparedSendOn
+on_by link old channel (frame_body.Flow flow) = on_named link old channel flow flow.handle
+on_by link old channel it = []
+
+-- and so does a deed
+abbrev pub on_in : ℕ → LinkedSessions → Deed → List PreparedSendOn
+on_in link old (Takes limit frame frames events) = on_by link old frame.channel frame.body
+on_in link old deed = []
+
+-- what a link says in a deed: the message that it is given, or the first so many of those that it has to send on
+pub record SaysIn (link : ℕ) (old : LinkedSessions) (deed : Deed) (messages : List Message) : Type 0 where
+  pub count : ℕ
+  pub are : messages ≡ message_in link deed ++ map message_on (take count (on_in link old deed))
+
+-- and in one after the other
+abbrev pub AreSaid : ℕ → LinkedSessions → List Deed → LinkedSessions → List Message → Type 0
+AreSaid link old [] new messages = (new ≡ old) × (messages ≡ [])
+AreSaid link old (deed ∷ deeds) new messages =
+    (mid : LinkedSessions) × (these : List Message) × (rest : List Message) × IsDeed linked old deed mid
+    × SaysIn link old deed these × AreSaid link mid deeds new rest × (messages ≡ these ++ rest)
+
+-- transfers say what a link says by these deeds
+pub record SayAll (link : ℕ) (old : LinkedSessions) (deeds : List Deed) (new : LinkedSessions) (pieces : List Piece)
+    : Type 0 where
+  pub messages : List Message
+  pub are : AreSaid link old deeds new messages
+  pub say : SayMessages pieces messages
+
+-- by none of these deeds it had anything to send on
+abbrev pub NothingOn : (link : ℕ) (old : LinkedSessions) (deeds : List Deed) (new : LinkedSessions)
+    (messages : List Message) → AreSaid link old deeds new messages → Type 0
+NothingOn link old [] new messages said = Unit {0}
+NothingOn link old (deed ∷ deeds) new messages (mid, these, rest, done, says, others, all) =
+    (on_in link old deed ≡ []) × NothingOn link mid deeds new rest others
+
 -- the first of these frames is an Attach with this own handle and this name (part 2, 2.6.3)
 pub record AttachesFirst (handle : OutputHandle) (name : List ℕ) (frames : List SessionFrame) : Type 0 where
   pub channel : ℕ
@@ -97,9 +162,9 @@ pub record AttachesFirst (handle : OutputHandle) (name : List ℕ) (frames : Lis
   pub named : attach.name ≡ name
 
 -- among these deeds is this call by which the link attached, and what passed in its session since, by its handle, and
--- what waits there, says these messages
-pub record SaysSince (sessions : LinkedSessions) (deeds : List Deed) (number : ℕ) (it : Call) (answer : Answer)
-    (handle : OutputHandle) (end : LinkedSessions) (session : Session) (messages : List Message) : Type 0 where
+-- what waits there, says what the link says since then: by calls these messages
+pub record SaysSince (sessions : LinkedSessions) (deeds : List Deed) (number link : ℕ) (it : Call) (answer : Answer)
+    (handle : OutputHandle) (end : LinkedSessions) (session : Session) (given : List Message) : Type 0 where
   pub before : List Deed
   pub limit : ℕ
   pub frames : List SessionFrame
@@ -111,4 +176,5 @@ pub record SaysSince (sessions : LinkedSessions) (deeds : List Deed) (number : �
   pub attached : IsDeed linked old (Does limit it answer frames) new
   pub passings : List Passing
   pub passes : PassesIn number new since end passings
-  pub says : SayMessages (queued handle passings session.value.session) messages
+  pub by_calls : messages_by link since ≡ given
+  pub says : SayAll link new since end (queued handle passings session.value.session)

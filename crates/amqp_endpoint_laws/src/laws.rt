@@ -47,8 +47,8 @@ ghost use Rattle.amqp_endpoint_laws.specs.Judged.{Judged};
 ghost use Rattle.amqp_endpoint_laws.specs.Linking.{HaveCome};
 ghost use Rattle.amqp_endpoint_laws.specs.Paired.{BeginsOn, BegunOn};
 ghost use Rattle.amqp_endpoint_laws.specs.Passed.{HasCome, PassesIn, came_in, sent_in};
-ghost use Rattle.amqp_endpoint_laws.specs.Queued.{AttachesFirst, Message, SayMessages, SaysSince, messages_by};
-ghost use Rattle.amqp_endpoint_laws.specs.Queued.{messages_done};
+ghost use Rattle.amqp_endpoint_laws.specs.Queued.{AreSaid, AttachesFirst, Message, NothingOn, SayAll, SaysSince};
+ghost use Rattle.amqp_endpoint_laws.specs.Queued.{messages_by, messages_done};
 ghost use Rattle.amqp_endpoint_laws.specs.Queued.{pieces_waiting, queued};
 ghost use Rattle.amqp_endpoint_laws.specs.Opening.{Opens, OpensBy, OpensSending, those_behind};
 ghost use Rattle.amqp_endpoint_laws.specs.Resumed.{NeverCalledAgain, NeverResumed};
@@ -287,11 +287,13 @@ pub fn all_that_is_handed_out()
 
 /// What a link is given to send is queued in order. Its Attach is the first frame of the call by which it attaches,
 /// as a new link or again, and says its own handle and its name. The transfers with that handle among all that passes
-/// in its session from then on, and behind them those that wait there for the peer's window, say the messages that
-/// the link accepted since, one after the other, each with its tag, its format, whether it goes settled, and all of
-/// its bytes; and no message is left half said (part 2, 2.6.12, 2.6.14). So it is whatever else the endpoint does and
-/// hears, as long as the session holds the link and goes on, and the link doesn't attach again. In a run these are
-/// all messages that the link is given by calls that are done behind that call.
+/// in its session from then on, and behind them those that wait there for the peer's window, say what the link says by
+/// what is done since: the messages that it accepts, and, as a Flow comes, the first so many of those that it has to
+/// send on, one after the other, each with its tag, its format, whether it goes settled, and all of its bytes, or those
+/// behind the place where its receiver stands; and no message is left half said (part 2, 2.6.12 to 2.6.14). So it is
+/// whatever else the endpoint does and hears, as long as the session holds the link and goes on, and the link doesn't
+/// attach again. Where it has nothing to send on these are the messages that it accepted; in a run, all that it is given
+/// by calls that are done behind that call.
 pub fn what_is_sent_is_queued_in_order()
     ensures says { (sessions old new end : LinkedSessions) (settings : Settings) (before since : List Deed)
         (deed : Deed) (number link : ℕ) (passings : List Passing) (handle : OutputHandle) (session : Session) →
@@ -299,7 +301,10 @@ pub fn what_is_sent_is_queued_in_order()
         Opens deed number link → PassesIn number new since end passings →
         place_at end.links link ≡ Some (Held number handle) → NeverResumed link since →
         live_at end.talk.sessions number ≡ Some session →
-        SayMessages (queued handle passings session.value.session) (messages_by link since) }
+        SayAll link new since end (queued handle passings session.value.session) }
+    ensures given { (link : ℕ) (old end : LinkedSessions) (deeds : List Deed) (messages : List Message)
+        (said : AreSaid link old deeds end messages) → NothingOn link old deeds end messages said →
+        messages ≡ messages_by link deeds }
     ensures attaches { (sessions old new end : LinkedSessions) (settings : Settings) (before since : List Deed)
         (deed : Deed) (number link : ℕ) (passings : List Passing) (handle : OutputHandle) (name : List ℕ) →
         IsNew linked settings sessions → AreDone linked sessions before old → IsDeed linked old deed new →
@@ -315,11 +320,12 @@ pub fn what_is_sent_is_queued_in_order()
         live_at end.sessions.talk.sessions number ≡ Some session →
         (did : IsDone linked settings.max_frame_size sessions (pulled_since [] calls told) (fed_since [] calls told)
         (told_since [] calls told) (done_since [] calls told) (events_told told) (calls_done calls told) end) ×
-        SaysSince sessions (did.before ++ did.since) number it answer handle end.sessions session
+        SaysSince sessions (did.before ++ did.since) number link it answer handle end.sessions session
         (messages_done link (those_behind n (calls_done calls told))) }
 {
     links_given_back_go_on();
     no_two_links_share_a_handle();
+    held_links_stand_in_their_sessions();
 }
 
 /// Each link that attaches says so once: by each call that has a link attach one Attach is handed out, which is the
@@ -335,9 +341,10 @@ pub fn attaches_are_calls()
 /// What a sending link is given to send is read off the frames of its session, by the link's name and a count: how
 /// often a sending end attached with this name in the session before the link did, as a new one or again. The
 /// transfers of the attachment with this name and this count, among all frames that were handed out in the session
-/// since it was new, as they come to the peer, and behind them those that wait there, say the messages that the link
-/// accepted since it attached, in order, each whole (part 2, 2.6.2, 2.6.3, 2.6.12, 2.6.14). So it is whatever else
-/// the endpoint does and hears, as long as the session holds the link and goes on, and the link doesn't attach again.
+/// since it was new, as they come to the peer, and behind them those that wait there, say what the link says since it
+/// attached, in order, each message whole, or from where its receiver stands (part 2, 2.6.2, 2.6.3, 2.6.12 to 2.6.14).
+/// So it is whatever else the endpoint does and hears, as long as the session holds the link and goes on, and the link
+/// doesn't attach again.
 pub fn what_an_attachment_sends_is_what_it_accepted()
     ensures { (sessions old new end : LinkedSessions) (settings : Settings) (before since : List Deed)
         (deed : Deed) (number link : ℕ) (name : List ℕ) (first passings : List Passing) (handle : OutputHandle)
@@ -347,10 +354,11 @@ pub fn what_an_attachment_sends_is_what_it_accepted()
         NeverResumed link since → live_at end.talk.sessions number ≡ Some session →
         let read = attachment name (uses name (bodies_of (sent_in first)))
         (bodies_of (sent_in first ++ gone_in deed ++ sent_in passings)) in
-        SayMessages (read ++ pieces_waiting handle.0 session.value.session) (messages_by link since) }
+        SayAll link new since end (read ++ pieces_waiting handle.0 session.value.session) }
 {
     links_given_back_go_on();
     no_two_links_share_a_handle();
+    held_links_stand_in_their_sessions();
 }
 
 /// Each link that the peer asks for in a session is asked for by an Attach that came in the session, on the handle that
@@ -390,18 +398,18 @@ pub fn a_beginning_is_read_as_a_beginning()
         (readings nothing (attachment name others first)).messages ++ rest) }
 {}
 
-/// What is handed out is a beginning of what was accepted, message for message, with tag, format and bytes, and settled
-/// as it was sent. Of one end is told: the transfers of its attachment with a name and a count, among the frames that it
-/// handed out in a session, and behind them those that wait, say what its link accepted. Of the other: its link hands
-/// out what the transfers of the attachment with that name and that count say, among the frames that came there in the
-/// session. And what came are the first of what was handed out (part 2, 2.6.12, 2.6.14).
+/// What is handed out is a beginning of what was accepted, or sent on, message for message, with tag, format and bytes,
+/// and settled as it was sent. Of one end is told: the transfers of its attachment with a name and a count, among the
+/// frames that it handed out in a session, and behind them those that wait, say what its link says. Of the other: its
+/// link hands out what the transfers of the attachment with that name and that count say, among the frames that came
+/// there in the session. And what came are the first of what was handed out (part 2, 2.6.12, 2.6.14).
 pub fn what_is_handed_out_begins_what_was_accepted()
     ensures { (name : List ℕ) (others link : ℕ) (own : OutputHandle) (sent : List SessionFrame)
-        (waiting : List Piece) (since : List Deed) (came more : List FrameBody) (handed : List Handed) →
-        SayMessages (attachment name others (bodies_of sent) ++ waiting) (messages_by link since) →
+        (waiting : List Piece) (old new : LinkedSessions) (since : List Deed) (came more : List FrameBody)
+        (handed : List Handed) → (said : SayAll link old since new (attachment name others (bodies_of sent) ++ waiting)) →
         bodies_of sent ≡ came ++ more →
         handed ≡ map (handed_as own) (readings nothing (attachment name others came)).messages →
-        (rest : List Message) × (messages_by link since ≡ map message_handed handed ++ rest) }
+        (rest : List Message) × (said.messages ≡ map message_handed handed ++ rest) }
 {}
 
 /// What passes in a session of a connection is what one reads who has the connection's frames alone, and tells sessions
@@ -449,14 +457,15 @@ pub fn what_comes_in_a_session_begins_what_went_in_one()
 pub fn messages_are_handed_out_in_order_between_two_ends()
     ensures { (here there channel others : ℕ) (ours theirs : List Wired) (more : List Frame) (s : LinkedSessions)
         (session link : ℕ) (own : OutputHandle) (name : List ℕ) (handed : List Handed) (waiting : List Piece)
-        (since : List Deed) → BeginsOn here channel others ours → BegunOn there channel others theirs →
+        (old new : LinkedSessions) (since : List Deed) → BeginsOn here channel others ours →
+        BegunOn there channel others theirs →
         map frame_of (goings ours) ≡ comings theirs ++ more →
         let sent = bodies_of (sent_in (passing_in here nothing_read ours)) in
         let came = came_in (passing_in there nothing_read theirs) in
         (out : HandsOut s session own name came handed) →
-        SayMessages (attachment name (uses name out.earlier) sent ++ waiting) (messages_by link since) →
+        (said : SayAll link old since new (attachment name (uses name out.earlier) sent ++ waiting)) →
         NoneResumes (attachment name (uses name out.earlier) came) →
-        (rest : List Message) × (messages_by link since ≡ map message_handed handed ++ rest) }
+        (rest : List Message) × (said.messages ≡ map message_handed handed ++ rest) }
 {}
 
 /// Who reads the frames of a connection, and tells sessions apart by channels alone, finds each transfer that goes in a

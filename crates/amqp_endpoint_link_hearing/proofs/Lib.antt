@@ -25,3 +25,8 @@ mod Transfers
 mod Transferred
 mod Messages
 pub mod Inside
+pub mod OnBehind
+pub mod FlowHeard
+pub mod FlowLeft
+mod FlowReadied
+pub mod FlowServes

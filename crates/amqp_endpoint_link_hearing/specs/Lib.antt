@@ -13,3 +13,4 @@ pub mod Disposing
 pub mod Reached
 pub mod Transferring
 pub mod Taking
+pub mod ReadyOn

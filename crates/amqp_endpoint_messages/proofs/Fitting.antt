@@ -1,4 +1,5 @@
--- The transfers of a message fit the frames that they were cut for, whatever number their delivery gets.
+-- The transfers of a message that is sent, or sent on, fit the frames that they were cut for, whatever number the
+-- delivery gets.
 use Rattle.std.proofs.Common.{◌≡◌, ℕ, ◌+◌, ◌-◌, ◌≤◌, ◌<◌, Bool, true, false, List, [], ◌∷◌, ◌++◌, length, arith}
 use Rattle.std.proofs.Common.{refl, sym, ap, subst}
 use Rattle.std.specs.Prelude.{◌^◌, ◌==◌, All, Option, Some, None, nat_le, nat_lt, if◌then◌else◌}
@@ -12,6 +13,8 @@ use Rattle.serde_amqp_item.specs.Canon.{◌>>=◌, canon, canon_all, list_text}
 use Rattle.serde_amqp_item.proofs.Texts.{canon_long}
 use Rattle.serde_amqp_de.specs.Takes.{is_boolean, or_null}
 use Rattle.amqp_session_types.specs.declared.handles.OutputHandle.{OutputHandle}
+use Rattle.amqp_session_states.specs.DeliveryState.{delivery_state_item}
+use Rattle.amqp_session_states.specs.declared.delivery_state.DeliveryState.{DeliveryState}
 use Rattle.amqp_session_performatives.specs.Transfer.{transfer_fields, transfer_item}
 use Rattle.amqp_session_performatives.specs.declared.session_frame.SessionFrameBody.TheVariants as body
 use Rattle.amqp_session_performatives.specs.declared.transfer.Transfer.{Transfer}
@@ -36,12 +39,12 @@ abbrev Unit : Type 0
 Unit = Outbound TransferFrame BehindFrame
 
 -- the room that a frame leaves, and the performative that it leaves it behind
-record Leaves (limit room : ℕ) (text : Option (List ℕ)) : Type 0 where
+pub record Leaves (limit room : ℕ) (text : Option (List ℕ)) : Type 0 where
   pub bytes : List ℕ
   pub is : text ≡ Some bytes
   pub fits : 8 + length bytes + room ≤ limit
 
-leaves : (limit room : ℕ) (text : Option (List ℕ)) → room_behind text limit ≡ Some room → Leaves limit room text
+pub leaves : (limit room : ℕ) (text : Option (List ℕ)) → room_behind text limit ≡ Some room → Leaves limit room text
 leaves limit room None is = absurd cc
 leaves limit room (Some text) is = by (limit - 8 - length text == 0) refl is
   where
@@ -124,10 +127,10 @@ none-longer said text whole most other some long fields =
     described-short 0x14 (length whole.whole) (list (items_of (trimmed (transfer_fields other)))) coded inner in
     record { bytes = all.bytes; is = all.is; short = omega (arith, all.short, whole.long) }
 
--- what the measured transfer says
-module _ (handle : OutputHandle) (m : Message) (settled : Bool) where
-  abbrev first : Transfer
-  first = first_on handle m settled
+-- what the measured transfer says; one that resumes a message says a state, too
+module _ (handle : OutputHandle) (m : Message) (settled : Bool) (state : Option DeliveryState) (resume : Bool) where
+  abbrev pub first : Transfer
+  first = record (first_on handle m settled) { state = state; resume = resume }
 
   abbrev link : Item
   link = scalar (uint handle.0)
@@ -147,8 +150,20 @@ module _ (handle : OutputHandle) (m : Message) (settled : Bool) where
   abbrev more : Item
   more = scalar (boolean true)
 
+  abbrev tail : List Item
+  tail =
+      scalar null
+      ∷ option_item delivery_state_item state
+      ∷ or_null (is_boolean false) (scalar (boolean resume))
+      ∷ scalar null
+      ∷ scalar null
+      ∷ []
+
+  abbrev resuming : List Item
+  resuming = trimmed tail
+
   abbrev said : List Item
-  said = link ∷ number ∷ tag ∷ format ∷ settling ∷ more ∷ []
+  said = link ∷ number ∷ tag ∷ format ∷ settling ∷ more ∷ resuming
 
   -- the texts of its fields
   record Texts (content : List ℕ) : Type 0 where
@@ -160,19 +175,23 @@ module _ (handle : OutputHandle) (m : Message) (settled : Bool) where
     pub of_format : List ℕ
     pub is_format : canon format ≡ Some of_format
     pub some_format : 1 ≤ length of_format
-    pub long : length of_link + (5 + (length of_tag + (length of_format + (1 + (1 + 0))))) ≤ length content
+    pub of_resuming : List ℕ
+    pub is_resuming : canon_all (items_of resuming) ≡ Some of_resuming
+    pub long : length of_link + (5 + (length of_tag + (length of_format + (1 + (1 + length of_resuming)))))
+        ≤ length content
 
   texts : (content : List ℕ) → canon_all (items_of said) ≡ Some content → Texts content
   texts content is =
-      let a : Parts link (number ∷ tag ∷ format ∷ settling ∷ more ∷ []) content =
-      parts link (number ∷ tag ∷ format ∷ settling ∷ more ∷ []) content is in
-      let b : Parts number (tag ∷ format ∷ settling ∷ more ∷ []) a.rest =
-      parts number (tag ∷ format ∷ settling ∷ more ∷ []) a.rest a.is_rest in
-      let c : Parts tag (format ∷ settling ∷ more ∷ []) b.rest =
-      parts tag (format ∷ settling ∷ more ∷ []) b.rest b.is_rest in
-      let d : Parts format (settling ∷ more ∷ []) c.rest = parts format (settling ∷ more ∷ []) c.rest c.is_rest in
-      let e : Parts settling (more ∷ []) d.rest = parts settling (more ∷ []) d.rest d.is_rest in
-      let f : Parts more [] e.rest = parts more [] e.rest e.is_rest in
+      let a : Parts link (number ∷ tag ∷ format ∷ settling ∷ more ∷ resuming) content =
+      parts link (number ∷ tag ∷ format ∷ settling ∷ more ∷ resuming) content is in
+      let b : Parts number (tag ∷ format ∷ settling ∷ more ∷ resuming) a.rest =
+      parts number (tag ∷ format ∷ settling ∷ more ∷ resuming) a.rest a.is_rest in
+      let c : Parts tag (format ∷ settling ∷ more ∷ resuming) b.rest =
+      parts tag (format ∷ settling ∷ more ∷ resuming) b.rest b.is_rest in
+      let d : Parts format (settling ∷ more ∷ resuming) c.rest =
+      parts format (settling ∷ more ∷ resuming) c.rest c.is_rest in
+      let e : Parts settling (more ∷ resuming) d.rest = parts settling (more ∷ resuming) d.rest d.is_rest in
+      let f : Parts more resuming e.rest = parts more resuming e.rest e.is_rest in
       let five : length largest ≡ length b.head = ap size b.is_head in
       record {
         of_link = a.head;
@@ -183,6 +202,8 @@ module _ (handle : OutputHandle) (m : Message) (settled : Bool) where
         of_format = d.head;
         is_format = d.is_head;
         some_format = omega (arith, canon_long format d.head d.is_head);
+        of_resuming = f.rest;
+        is_resuming = f.is_rest;
         long = omega (
           arith,
           a.long,
@@ -200,15 +221,15 @@ module _ (handle : OutputHandle) (m : Message) (settled : Bool) where
   -- the fields of its delivery's transfers are no longer
   module _ (content : List ℕ) (t : Texts content) where
     abbrev most : ℕ
-    most = length t.of_link + (5 + (length t.of_tag + (length t.of_format + (1 + (1 + 0)))))
+    most = length t.of_link + (5 + (length t.of_tag + (length t.of_format + (1 + (1 + length t.of_resuming)))))
 
     abbrev nulls : List Item
     nulls = scalar null ∷ scalar null ∷ scalar null ∷ scalar null ∷ scalar null ∷ []
 
-    flag : (b : Bool) → ShortFields (1 + 0) (or_null (is_boolean false) (scalar (boolean b)) ∷ nulls)
-    flag b =
-        field (default-short 1 (is_boolean false) (scalar (boolean b)) (omega arith) (boolean-short b))
-        (record { within = this 0 [] (omega arith) })
+    flag : (b : Bool) (xs : List Item) → ShortFields (length t.of_resuming) xs
+        → ShortFields (1 + length t.of_resuming) (or_null (is_boolean false) (scalar (boolean b)) ∷ xs)
+    flag b xs fields =
+        field (default-short 1 (is_boolean false) (scalar (boolean b)) (omega arith) (boolean-short b)) fields
 
     link-short : Short (length t.of_link) link
     link-short = short (length t.of_link) link t.of_link t.is_link (omega arith)
@@ -223,7 +244,11 @@ module _ (handle : OutputHandle) (m : Message) (settled : Bool) where
         (field (number-short n is)
         (field (short (length t.of_tag) tag t.of_tag t.is_tag (omega arith))
         (field (short (length t.of_format) format t.of_format t.is_format (omega arith))
-        (field (boolean-short settled) (flag b)))))
+        (field (boolean-short settled)
+        (flag b tail
+        (record {
+          within = record { bytes = t.of_resuming; is = t.is_resuming; short = omega arith };
+        }))))))
 
     later-fields : (b : Bool) (n : Option ℕ) → MayBeUint n
         → ShortFields most (transfer_fields (record (later (record { 0 = handle.0 }) b) { delivery_id = n }))
@@ -231,7 +256,9 @@ module _ (handle : OutputHandle) (m : Message) (settled : Bool) where
         field link-short
         (field (number-short n is)
         (field (null-short (length t.of_tag) t.some_tag)
-        (field (null-short (length t.of_format) t.some_format) (field (null-short 1 (omega arith)) (flag b)))))
+        (field (null-short (length t.of_format) t.some_format)
+        (field (null-short 1 (omega arith))
+        (flag b nulls (record { within = this (length t.of_resuming) [] (omega arith) }))))))
 
   -- nor are those transfers
   module _ (text : List ℕ) (is : canon (transfer_item (measured first)) ≡ Some text) where
@@ -248,30 +275,35 @@ module _ (handle : OutputHandle) (m : Message) (settled : Bool) where
         fields
 
 -- each of the transfers, in a frame of its link
-module _ (limit channel room : ℕ) (handle : OutputHandle) (m : Message) (settled : Bool) (few : limit < 2 ^ 32)
-    (is_room : room_of (first_on handle m settled) limit ≡ Some room) where
-  abbrev left : Leaves limit room (canon (transfer_item (measured (first_on handle m settled))))
-  left = leaves limit room (canon (transfer_item (measured (first_on handle m settled)))) is_room
+module _ (limit channel room : ℕ) (handle : OutputHandle) (m : Message) (settled : Bool) (state : Option DeliveryState)
+    (resume : Bool) (few : limit < 2 ^ 32)
+    (is_room : room_of (first handle m settled state resume) limit ≡ Some room) where
+  abbrev start : Transfer
+  start = first handle m settled state resume
 
-  abbrev field_texts : Texts handle m settled (whole handle m settled left.bytes left.is).content
-  field_texts = of_fields handle m settled left.bytes left.is
+  abbrev left : Leaves limit room (canon (transfer_item (measured start)))
+  left = leaves limit room (canon (transfer_item (measured start))) is_room
+
+  abbrev field_texts : Texts handle m settled state resume
+      (whole handle m settled state resume left.bytes left.is).content
+  field_texts = of_fields handle m settled state resume left.bytes left.is
 
   abbrev Fitting : Unit → Type 0
   Fitting u = UnitFits channel limit handle.0 u
 
   first-fits : (b : Bool) (payload : List ℕ) → length payload ≤ room
-      → Fitting (first_of (record (first_on handle m settled) { more = b }) payload)
+      → Fitting (first_of (record start { more = b }) payload)
   first-fits b payload le =
       record {
         transfer =
             record {
               each = λ n is.
                   frame-fits limit channel (length left.bytes)
-                  (record (first_on handle m settled) { more = b; delivery_id = n }) payload few
+                  (record start { more = b; delivery_id = n }) payload few
                   (omega (arith, left.fits, le))
-                  (no-longer handle m settled left.bytes left.is
-                  (record (first_on handle m settled) { more = b; delivery_id = n })
-                  (first-fields handle m settled _ field_texts b n is));
+                  (no-longer handle m settled state resume left.bytes left.is
+                  (record start { more = b; delivery_id = n })
+                  (first-fields handle m settled state resume _ field_texts b n is));
             };
         behind = All-nil (BehindFits channel limit);
       }
@@ -286,9 +318,9 @@ module _ (limit channel room : ℕ) (handle : OutputHandle) (m : Message) (settl
                   frame-fits limit channel (length left.bytes)
                   (record (later (record { 0 = handle.0 }) b) { delivery_id = n }) payload few
                   (omega (arith, left.fits, le))
-                  (no-longer handle m settled left.bytes left.is
+                  (no-longer handle m settled state resume left.bytes left.is
                   (record (later (record { 0 = handle.0 }) b) { delivery_id = n })
-                  (later-fields handle m settled _ field_texts b n is));
+                  (later-fields handle m settled state resume _ field_texts b n is));
             };
         behind = All-nil (BehindFits channel limit);
       }
@@ -303,9 +335,17 @@ module _ (limit channel room : ℕ) (handle : OutputHandle) (m : Message) (settl
       (subst Fitting (sym are.0) (later-fits (more_behind us) (bytes_of u) (All-head Carries u us within)))
       (laters-fit us are.1 (All-tail Carries u us within))
 
-  pub all-fit : (us : Transfers) → IsDelivery (first_on handle m settled) us → All Carries us → All Fitting us
-  all-fit [] is within = absurd is
-  all-fit (u ∷ us) is within =
+  pub all-fit-on : (us : Transfers) → IsDelivery start us → All Carries us → All Fitting us
+  all-fit-on [] is within = absurd is
+  all-fit-on (u ∷ us) is within =
       All-cons Fitting u us
       (subst Fitting (sym is.0) (first-fits (more_behind us) (bytes_of u) (All-head Carries u us within)))
       (laters-fit us is.1 (All-tail Carries u us within))
+
+-- those of a message that is sent say no state, and resume nothing
+pub all-fit : (limit channel room : ℕ) (handle : OutputHandle) (m : Message) (settled : Bool) → limit < 2 ^ 32
+    → room_of (first_on handle m settled) limit ≡ Some room → (us : Transfers)
+    → IsDelivery (first_on handle m settled) us → All (λ (u : Unit). length (bytes_of u) ≤ room) us
+    → All (UnitFits channel limit handle.0) us
+all-fit limit channel room handle m settled few is_room us is within =
+    all-fit-on limit channel room handle m settled None false few is_room us is within

@@ -1,18 +1,33 @@
 -- A session takes transfers that give deliveries up, one after the other.
 use Rattle.std.proofs.Common.{◌≡◌, inl, inr, ℕ, ◌≤◌, Bool, true, false, List, [], ◌∷◌, ◌++◌, length, refl, sym}
-use Rattle.std.proofs.Common.{subst}
+use Rattle.std.proofs.Common.{subst, ap, Option, Some, None}
 use Rattle.std.proofs.Common.{◌∙◌, append-nil, append_assoc, arith}
+use Rattle.std.specs.Prelude.{IsSome}
 use Rattle.amqp_session_types.specs.declared.handles.OutputHandle.{OutputHandle}
 use Rattle.amqp_session_performatives.specs.declared.session_frame.SessionFrame.{SessionFrame}
+use Rattle.amqp_session_outgoing.specs.Frames.{HasTag, HaveTags}
 use Rattle.amqp_session_outgoing.specs.Queues.{room_behind}
 use Rattle.amqp_session_outgoing.specs.State as sending
 use Rattle.amqp_session_core.specs.declared.batch.BehindFrame.{BehindFrame}
 use Rattle.amqp_session_core.specs.declared.batch.TransferFrame.{TransferFrame}
-use Rattle.amqp_session_core.specs.Batch.{Transfers}
+use Rattle.amqp_session_core.specs.Batch.{Transfers, leaves_settled, part_of}
 use Rattle.amqp_session_core.specs.Told.{TransfersSent}
 use Rattle.amqp_endpoint_attached.specs.Linked.{LinksIn, gives}
-use Rattle.amqp_endpoint_messages.specs.GivingUp.{HandsEach, HandsOne}
+use Rattle.amqp_endpoint_messages.specs.GivingUp.{HandsEach, HandsOne, IsBare}
 use Rattle.amqp_endpoint_messages.specs.MadeReady.{MadeRoomIn}
+use Rattle.amqp_endpoint_messages.proofs.Transfers.{part_tagged}
+
+-- one transfer that begins a delivery with a tag is tagged, and is one
+pub bare-tagged : (batch : Transfers) → IsBare batch → HaveTags batch
+bare-tagged batch is =
+    subst (λ (us : Transfers). HaveTags us) (sym is.alone) (by (is.transfer).delivery_tag is.tagged, tt)
+  where
+    by : (tag : Option (List ℕ)) → IsSome tag → HasTag (part_of tag (leaves_settled is.transfer))
+    by None some = absurd cc
+    by (Some tag) some = part_tagged tag (leaves_settled is.transfer)
+
+pub bare-alone : (batch : Transfers) → IsBare batch → length batch ≡ 1
+bare-alone batch is = ap (λ (us : Transfers). length us) is.alone
 
 -- what is handed out stands behind what was handed out before
 pub record Behind (handle : OutputHandle) (batches : List Transfers) (before out : List SessionFrame) (old : LinksIn)

@@ -26,3 +26,8 @@ pub mod Ready
 pub mod Handed
 pub mod Attached
 pub mod AttachDone
+pub mod Places
+pub mod CutOn
+pub mod SentOn
+pub mod Credited
+pub mod CreditDone

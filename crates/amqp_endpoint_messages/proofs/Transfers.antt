@@ -23,7 +23,7 @@ use Rattle.amqp_endpoint_messages.specs.Sending.{CutsTo, IsCut, RefusesCut, on_h
 abbrev Unit : Type 0
 Unit = Outbound TransferFrame BehindFrame
 
-part_tagged : (tag : List ℕ) (settled : Bool) → HasTag (part_of (Some tag) settled)
+pub part_tagged : (tag : List ℕ) (settled : Bool) → HasTag (part_of (Some tag) settled)
 part_tagged tag true = tt
 part_tagged tag false = tt
 

@@ -10,3 +10,4 @@ pub mod Echoing
 pub mod Sending
 pub mod GivingUp
 pub mod MadeReady
+pub mod SendingOn

@@ -11,7 +11,6 @@ use Rattle.amqp_endpoint_model.specs.State.{error_of}
 use Rattle.amqp_endpoint_model.specs.Step.{not_allowed}
 use Rattle.amqp_endpoint_attached.specs.Linked.{Linked, LinksIn, gives}
 use Rattle.amqp_endpoint_messages.specs.GivingUp.{Closes, EachFits, abort_fits, all_fit, batch_of, fitting}
-use Rattle.amqp_endpoint_messages.specs.GivingUp.{planned_at}
 use Rattle.amqp_endpoint_messages.specs.declared.giving_up.AttachReady.{AttachReady}
 use Rattle.amqp_endpoint_messages.specs.declared.giving_up.Closing.{Closing}
 use Rattle.amqp_endpoint_messages.specs.declared.giving_up.GivingUp.{GivingUp}
@@ -38,7 +37,8 @@ pub record HasPlaceToClose (s : Linked) (closing : Closing) : Type 0 where
   pub serves : room_behind closing.handle.0 1 s.session.outgoing.queues ≤ closing.place
 
 -- That with which the link is closed that has this own handle in the session with this number, of whose messages so
--- many are open: its Detach says that it isn't allowed (2.8.15).
+-- many are open: its Detach says that it isn't allowed (2.8.15). There is a place for it also behind a Flow of the link
+-- that comes to wait before.
 pub record IsClosing (s : Linked) (number : ℕ) (own : OutputHandle) (opened : ℕ) (closing : Closing) : Type 0 where
   pub is : closing ≡ record {
     session = number;
@@ -48,6 +48,7 @@ pub record IsClosing (s : Linked) (number : ℕ) (own : OutputHandle) (opened : 
     place = closing.place;
   }
   pub place : HasPlaceToClose s closing
+  pub behind : room_behind own.0 2 s.session.outgoing.queues ≤ closing.place
 
 -- The deliveries that the link gives up, with what it is closed with.
 pub record IsReadyWith (limit : ℕ) (aborts : List Abort) (with : Closing) (ready : AttachReady) : Type 0 where

@@ -12,7 +12,7 @@ ghost use Rattle.amqp_endpoint_model.specs.State.{error_of};
 ghost use Rattle.amqp_endpoint_model.specs.Step.{not_allowed as condition};
 ghost use Rattle.amqp_endpoint_attached.specs.Detaching.{is_there};
 ghost use Rattle.amqp_endpoint_attached.specs.Linked.{end_at, end_in};
-ghost use Rattle.amqp_endpoint_messages.specs.GivingUp.{DoesAttached, DoesClosedFor, HandsEach, HandsOne, IsBare};
+ghost use Rattle.amqp_endpoint_messages.specs.GivingUp.{DoesAttached, DoesClosedFor, HandsEach, IsBare};
 ghost use Rattle.amqp_endpoint_messages.specs.GivingUp.{abort_on, given_up_by, planned_at, stuck_by};
 ghost use Rattle.amqp_endpoint_messages.specs.GivingUp.{transfer_fits};
 ghost use Rattle.amqp_endpoint_messages.specs.MadeReady.{ClosesOut, HasPlaceToClose, HasRoomToSend, HasRoomToTell};
@@ -22,6 +22,7 @@ ghost use Rattle.amqp_link.specs.GoingOn.{aborts_of};
 
 use crate::cutting::on_handle;
 use crate::ending::tell_first;
+use crate::taking::hand_over;
 use amqp_endpoint_attached::{LinkSession, detach_placed, take_kept};
 use amqp_endpoint_links::Numbered;
 use amqp_endpoint_model::{EndpointError, Event, Refused};
@@ -83,7 +84,7 @@ pub fn make_closing(
     ensures { IfOk result (IsClosing session.now number handle count) }
 {
     let why = not_allowed(alloc)?;
-    match session.session.place_behind_more(alloc, handle, 1) {
+    match session.session.place_behind_more(alloc, handle, 2) {
         Ok(place) => Ok(Closing {
             session: number,
             handle,
@@ -316,7 +317,7 @@ fn not_allowed(alloc: Global) -> Result<definitions::Error, AllocError>
 }
 
 /// Room for so many transfers in the session, and for two frames beside them.
-fn make_room_to_send(
+pub(crate) fn make_room_to_send(
     session: &mut Session<Numbered<LinkEnd>>,
     out: &mut VecDeque<SessionFrame>,
     count: usize,
@@ -396,37 +397,8 @@ fn give_up(
     false
 }
 
-/// A session takes one of them, and answers whether it did: not where its number is in use (part 2, 2.8.6). Nothing
-/// else is in the way: a link has the handle, the delivery has a tag, and there is room for it. It takes no memory.
-fn hand_over(
-    session: &mut Session<Numbered<LinkEnd>>,
-    alloc: Global,
-    handle: OutputHandle,
-    batch: &mut Batch,
-    out: &mut VecDeque<SessionFrame>,
-) -> bool
-    requires there { IsSome (link_at session.old handle.0) }
-    requires bare { IsBare batch.old }
-    requires room { 0 < session.old.outgoing.room }
-    requires spare { deque_len out.old + (frames_in session.old.outgoing.queues + session.old.outgoing.room) + 1
-        ≤ deque_capacity out.old }
-    ensures handed { HandsOne handle batch.old session.old out.old.items result session.new out.new.items }
-    ensures room { session.old.outgoing.room ≤ session.new.outgoing.room + 1 }
-    ensures spare { deque_len out.new + (frames_in session.new.outgoing.queues + session.new.outgoing.room) + 1
-        ≤ deque_capacity out.new }
-    ensures place { (most : ℕ) → 1 ≤ most → room_behind handle.0 1 session.old.outgoing.queues ≤ most →
-        room_behind handle.0 1 session.new.outgoing.queues ≤ most }
-    ensures links { session.new.links ≡ session.old.links }
-    ensures fields { session.new.fields ≡ session.old.fields }
-{
-    match session.on_outgoing_transfer(alloc, out, handle, batch) {
-        Ok(()) => true,
-        Err(_) => false,
-    }
-}
-
 /// Why not all deliveries are given up, by whether the session stopped, and whether the peer takes a frame for each.
-fn stuck_by(stopped: bool, all_fit: bool) -> Option<EndpointError>
+pub(crate) fn stuck_by(stopped: bool, all_fit: bool) -> Option<EndpointError>
     ensures { result ≡ stuck_by stopped all_fit }
 {
     if stopped {

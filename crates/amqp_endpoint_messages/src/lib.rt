@@ -7,7 +7,7 @@
 //! holds in Longest. Outcomes are told of the messages that a disposition of the peer reaches, and of those that
 //! a link has as it ends: specs/ Reached and All; what is echoed to the peer (part 2, 2.8.3), Echoing. What a link does
 //! once the peer's Attach is taken (part 2, 2.6.13), and which deliveries it gives up, says GivingUp; what is made ready
-//! for that, MadeReady.
+//! for that, MadeReady. Which messages it sends on once it has credit, and how, says SendingOn.
 #![tactic(auto)]
 
 mod cutting;
@@ -24,6 +24,8 @@ pub mod outcome_laws;
 mod preparing;
 mod reached;
 mod sending;
+mod sending_on;
+mod taking;
 
 pub use disposing_all::dispose_all;
 pub use echoing::{Echoes, make_echoes, send_echoes};
@@ -38,3 +40,4 @@ pub use one::dispose;
 pub use preparing::send_refusal;
 pub use reached::{reached_by, tell_reached};
 pub use sending::send;
+pub use sending_on::{FlowReady, SendingOn, make_flow_ready, send_on};

@@ -2,7 +2,7 @@
 //! and what an Attach gives up and ends (part 2, 2.6.7 and 2.6.13).
 ghost use Rattle.std.specs.Prelude.{◌≡◌, IfOk};
 ghost use Rattle.amqp_link.specs.Preparing.{IsFor};
-ghost use Rattle.amqp_link.specs.GoingOn.{aborts_of, ended_of, sends_on_behind, sends_on_by};
+ghost use Rattle.amqp_link.specs.GoingOn.{HasCreditFor, aborts_of, ended_of, sends_on_behind, sends_on_by, sent_on};
 
 use crate::end::{End, LinkEnd};
 use crate::preparing::PreparedAttach;
@@ -50,6 +50,18 @@ impl LinkEnd {
             }
             (End::Sender(_), PreparedAttach::Receiver(_)) => Ok(Vec::new(alloc)),
             (End::Receiver(_), _) => Ok(Vec::new(alloc)),
+        }
+    }
+
+    /// The message that goes on first is sent on: a link that sends takes one credit, and the message waits no more (part
+    /// 2, 2.6.7 and 2.6.13). Nothing is done of one that receives. It takes no memory.
+    pub fn commit_send_on(&mut self)
+        requires { HasCreditFor 1 self.old }
+        ensures { self.new ≡ sent_on self.old }
+    {
+        match &mut self.end {
+            End::Sender(link) => link.commit_send_on(),
+            End::Receiver(_) => {}
         }
     }
 }

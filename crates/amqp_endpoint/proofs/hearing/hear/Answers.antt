@@ -77,8 +77,8 @@ returns-in-Flow-clause-ok c =
     hears-if c.args.talk.now call.new.talk c.args.links.now call.new.links c.args.given.now c.args.given.now
     c.args.limit c.args.channel c.args.body (body.Flow c.in-Flow.flow) c.args.out.now.items call.new.out.items
     c.args.events.now.items call.new.events.items
-    (λ frames events. HearsFlow c.args.talk.now c.args.links.now c.args.channel c.in-Flow.flow frames events
-    call.new.talk call.new.links) (λ frames events h. (h, refl)) c.in-Flow.is call.result call.ensures.ok
+    (λ frames events. HearsFlow c.args.talk.now c.args.links.now c.args.limit c.args.channel c.in-Flow.flow frames
+    events call.new.talk call.new.links) (λ frames events h. (h, refl)) c.in-Flow.is call.result call.ensures.ok
 
 pub returns-in-Flow-clause-err : goal.returns-in-Flow-clause-err
 returns-in-Flow-clause-err c =
@@ -100,7 +100,7 @@ returns-in-Flow-clause-kept c =
     (λ kept. (kept.0, refl, kept.1, kept.2)) call.result call.ensures.kept
 
 pub returns-in-Flow-clause-goes : goal.returns-in-Flow-clause-goes
-returns-in-Flow-clause-goes c = λ least. c.hear_flow.ensures.goes c.args.limit
+returns-in-Flow-clause-goes c = c.hear_flow.ensures.goes
 
 pub returns-in-Transfer-clause-ok : goal.returns-in-Transfer-clause-ok
 returns-in-Transfer-clause-ok c =

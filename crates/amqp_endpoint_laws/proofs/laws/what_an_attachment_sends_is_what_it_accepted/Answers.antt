@@ -1,25 +1,24 @@
 use Rattle.std.proofs.Common.{◌++◌, List, ℕ, subst}
 use Rattle.amqp_endpoint_laws.specs.Attachments.{attachment, bodies_of, gone_in, uses}
 use Rattle.amqp_endpoint_laws.specs.Passed.{sent_in}
-use Rattle.amqp_endpoint_laws.specs.Queued.{SayMessages, messages_by, pieces_waiting}
+use Rattle.amqp_endpoint_laws.specs.Queued.{SayAll, pieces_waiting}
 use Rattle.amqp_endpoint_laws.proofs.AttachmentsSent.{attachment-says}
 use Rattle.amqp_endpoint_laws.proofs.Opening.{opened-sending}
 use Rattle.amqp_endpoint_laws.proofs.laws.what_an_attachment_sends_is_what_it_accepted.Goals as goal
 
 pub returns : goal.returns
 returns c = λ sessions old new end settings before since deed number link name first passings handle session
-    fresh passed
-    d opens passes held never live.
+    fresh passed d opens passes held never live.
     let s = opened-sending old new number link name deed d opens in
     let o = s.opened in
     subst
-    (λ (n : List ℕ). SayMessages
+    (λ (n : List ℕ). SayAll link new since end
     (attachment n (uses n (bodies_of (sent_in first)))
     (bodies_of (sent_in first ++ gone_in deed ++ sent_in passings))
-    ++ pieces_waiting handle.0 session.value.session)
-    (messages_by link since))
+    ++ pieces_waiting handle.0 session.value.session))
     s.named
-    (attachment-says c.no_two_links_share_a_handle.ensures.by_deeds c.links_given_back_go_on.ensures.back
+    (attachment-says c.no_two_links_share_a_handle.ensures.by_deeds
+    c.held_links_stand_in_their_sessions.ensures.by_deeds c.links_given_back_go_on.ensures.back
     c.links_given_back_go_on.ensures.left c.links_given_back_go_on.ensures.finished sessions old new end settings before
     since number link o.limit o.it o.events (gone_in deed) deed first passings handle session fresh passed o.placed
     s.sends d passes held live never)

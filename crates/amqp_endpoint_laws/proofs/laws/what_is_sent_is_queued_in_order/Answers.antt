@@ -6,24 +6,29 @@ use Rattle.amqp_endpoint_laws.proofs.AttachmentsCalled.{one-name}
 use Rattle.amqp_endpoint_laws.proofs.Opening.{opened}
 use Rattle.amqp_endpoint_laws.proofs.QueuedAttached.{attaches-first, says-all}
 use Rattle.amqp_endpoint_laws.proofs.QueuedCalled.{says-called}
+use Rattle.amqp_endpoint_laws.proofs.QueuedGiven.{nothing-else}
 use Rattle.amqp_endpoint_laws.proofs.laws.what_is_sent_is_queued_in_order.Goals as goal
 
 pub returns-clause-says : goal.returns-clause-says
 returns-clause-says c = λ sessions old new end settings before since deed number link passings handle session fresh done
     d opens passes held never live.
     let o = opened old new number link deed d opens in
-    says-all c.no_two_links_share_a_handle.ensures.by_deeds c.links_given_back_go_on.ensures.back
-    c.links_given_back_go_on.ensures.left c.links_given_back_go_on.ensures.finished sessions old new end settings before
+    says-all c.no_two_links_share_a_handle.ensures.by_deeds c.held_links_stand_in_their_sessions.ensures.by_deeds
+    c.links_given_back_go_on.ensures.back c.links_given_back_go_on.ensures.left
+    c.links_given_back_go_on.ensures.finished sessions old new end settings before
     since number link o.limit o.it o.events (gone_in deed) deed passings handle fresh done o.placed d passes held never
     session live
 
+pub returns-clause-given : goal.returns-clause-given
+returns-clause-given c = nothing-else
+
 pub returns-clause-attaches : goal.returns-clause-attaches
 returns-clause-attaches c = λ sessions old new end settings before since deed number link passings handle name
-    fresh done
-    d opens passes held never is.
+    fresh done d opens passes held never is.
     let o = opened old new number link deed d opens in
     subst (λ (n : List ℕ). AttachesFirst handle n (gone_in deed)) (one-name (name_of o.it) name (sym o.named ∙ is))
-    (attaches-first c.no_two_links_share_a_handle.ensures.by_deeds c.links_given_back_go_on.ensures.back
+    (attaches-first c.no_two_links_share_a_handle.ensures.by_deeds
+    c.held_links_stand_in_their_sessions.ensures.by_deeds c.links_given_back_go_on.ensures.back
     c.links_given_back_go_on.ensures.left c.links_given_back_go_on.ensures.finished sessions old new end settings before
     since number link o.limit o.it o.events (gone_in deed) deed passings handle fresh done o.placed d passes held never)
 
@@ -31,6 +36,6 @@ pub returns-clause-by_calls : goal.returns-clause-by_calls
 returns-clause-by_calls c = λ sessions settings calls told end link n number it answer handle session new run is opens
     never held live.
     says-called c.links_given_back_go_on.ensures.back c.links_given_back_go_on.ensures.left
-    c.links_given_back_go_on.ensures.finished c.no_two_links_share_a_handle.ensures.by_deeds sessions settings calls
-    told
-    end link n number it answer handle session new run opens never is held live
+    c.links_given_back_go_on.ensures.finished c.no_two_links_share_a_handle.ensures.by_deeds
+    c.held_links_stand_in_their_sessions.ensures.by_deeds sessions settings calls told end link n number it answer
+    handle session new run opens never is held live

@@ -6,17 +6,26 @@ use Rattle.amqp_session_core.specs.State.{link_at}
 use Rattle.amqp_link.specs.declared.end.End.{End}
 use Rattle.amqp_endpoint_links.specs.declared.numbered.Numbered.{Numbered}
 use Rattle.amqp_endpoint_messages.specs.GivingUp.{HandsOne, IsBare}
-use Rattle.amqp_endpoint_messages.proofs.Handed.{handed-all, handed-more, handed-none}
+use Rattle.amqp_endpoint_messages.proofs.Handed.{bare-alone, bare-tagged, handed-all, handed-more}
+use Rattle.amqp_endpoint_messages.proofs.Handed.{handed-none}
 use Rattle.amqp_endpoint_messages.proofs.giving_up.give_up.Goals as goal
 
-pub hand_over-requires-clause-bare : goal.hand_over-requires-clause-bare
-hand_over-requires-clause-bare c =
-    All-head IsBare c.in-Some.batch c.pop_front.new.self.items
-    (subst (λ (l : List Transfers). All IsBare l) c.in-Some.ensures.items c.loop-batch.invariant.bare)
+pub hand_over-requires-clause-tagged : goal.hand_over-requires-clause-tagged
+hand_over-requires-clause-tagged c =
+    bare-tagged c.in-Some.batch
+    (All-head IsBare c.in-Some.batch c.pop_front.new.self.items
+    (subst (λ (l : List Transfers). All IsBare l) c.in-Some.ensures.items c.loop-batch.invariant.bare))
 
 pub hand_over-requires-clause-room : goal.hand_over-requires-clause-room
 hand_over-requires-clause-room c =
-    omega (arith, c.loop-batch.invariant.room, ap (λ (l : List Transfers). length l) c.in-Some.ensures.items)
+    omega (
+      arith,
+      c.loop-batch.invariant.room,
+      ap (λ (l : List Transfers). length l) c.in-Some.ensures.items,
+      bare-alone c.in-Some.batch
+          (All-head IsBare c.in-Some.batch c.pop_front.new.self.items
+          (subst (λ (l : List Transfers). All IsBare l) c.in-Some.ensures.items c.loop-batch.invariant.bare)),
+    )
 
 pub loop-batch-preserved : goal.loop-batch-preserved
 loop-batch-preserved c =
@@ -45,6 +54,9 @@ loop-batch-preserved c =
         c.loop-batch.invariant.room,
         ap (λ (l : List Transfers). length l) c.in-Some.ensures.items,
         c.hand_over.ensures.room,
+        bare-alone c.in-Some.batch
+            (All-head IsBare c.in-Some.batch c.pop_front.new.self.items
+            (subst (λ (l : List Transfers). All IsBare l) c.in-Some.ensures.items c.loop-batch.invariant.bare)),
       );
       spare = c.hand_over.ensures.spare;
       place = λ most least serves.

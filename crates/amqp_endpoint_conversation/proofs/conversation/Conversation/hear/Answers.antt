@@ -2,11 +2,13 @@ use Rattle.std.proofs.Common.{◌≡◌, refl, sym, ap, subst, ◌∙◌}
 use Rattle.std.proofs.lemmas.Option.{same_Some}
 use Rattle.std.specs.Box.{with_value}
 use Rattle.std.specs.Global.{Box}
+use Rattle.std.specs.VecDeque.{deque_len}
 use Rattle.amqp_endpoint_links.specs.declared.asking.AskingSession.{AskingSession}
 use Rattle.amqp_endpoint_links.specs.Hearing.{Hears}
 use Rattle.amqp_endpoint_tables.specs.Lends.{set_live}
 use Rattle.amqp_endpoint_conversation.specs.Beginning.{Sessions}
 use Rattle.amqp_endpoint_conversation.proofs.Answering.{unlent}
+use Rattle.amqp_endpoint_conversation.proofs.RoomsKept.{keeps-room}
 use Rattle.amqp_endpoint_conversation.proofs.conversation.Conversation.hear.Goals as goal
 
 pub returns-clause-step : goal.returns-clause-step
@@ -37,3 +39,9 @@ returns-clause-memory g c refused =
       ap (λ (ss : Sessions g.row.R.Denot). record c.args.self.now { sessions = ss }) back,
       kept.1,
     )
+
+pub returns-clause-room : goal.returns-clause-room
+returns-clause-room g c before after =
+    keeps-room c.args.self.now.sessions c.args.number c.in-Some.session.now c.deref_mut.result.now
+    c.on_incoming.new.self c.in-Some.ensures.value c.deref_mut.ensures.value (deque_len c.args.out.now)
+    (deque_len c.on_incoming.new.out) (c.on_incoming.ensures.frames_most, c.on_incoming.ensures.kept_room) before after
