@@ -52,12 +52,13 @@ edits:
 bench:
 	@tools/bench
 
-# Proves and builds the program, and runs the script once for each of its requests for memory, with that request refused.
-memory: SCENARIO = examples/open_close.scenario
+# Proves and builds the program, and runs each script once for each of its requests for memory, with that request refused.
+memory: SCENARIO = examples/open_close.scenario examples/long_message.scenario
 memory:
-	@tools/refuse_memory "$(SCENARIO)"
+	@tools/refuse_memory $(SCENARIO)
 
-# Runs random scripts of two endpoints, and of one, and judges what they print. The program is built once, and nothing is proved.
+# Runs random scripts of two endpoints and of one, and scripts of two whose connection breaks behind each byte, and judges
+# what they print. Nothing is proved.
 soak:
 	@tools/soak "$(SEEDS)" "$(STEPS)"
 

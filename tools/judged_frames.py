@@ -1,6 +1,5 @@
 """The frames of one end, as a script of `one` shows them: what tools/judge makes of them."""
-
-OPEN, BEGIN, FLOW, TRANSFER = 0x10, 0x11, 0x13, 0x14
+import amqp_frames as amqp
 
 
 def holds(fact, rule):
@@ -9,54 +8,81 @@ def holds(fact, rule):
 
 
 class Frames:
-    """Judges what pulls answer by what is fed. What it keeps of a session is under the end's own channel."""
+    """Judges what pulls answer by what is fed, in each connection, and has the other judges hear of the frames. What it
+    keeps of a session is under the end's own channel: the windows that the peer gave since nothing was left to pull."""
 
-    def __init__(self):
-        self.limit, self.is_idle = 512, False
-        self.own, self.first, self.next, self.window = {}, {}, {}, {}
+    def __init__(self, *others):
+        self.others, self.is_idle = others, False
+        self.connect()
+
+    def connect(self):
+        self.limit, self.input = 512, b""
+        self.own, self.first, self.next, self.windows, self.asked = {}, {}, {}, {}, {}
 
     def hear(self, _end, words):
         was_idle, self.is_idle = self.is_idle, words == ["pull"]
-        holds(words[0] not in ("break", "fault", "refused"), "the script has one connection and frames without a fault")
-        if words[0] == "feed":
-            holds(was_idle, "a frame is fed where nothing is left to pull")
-            self.fed(*read(bytes.fromhex(words[1])))
-        elif words[0] == "pull" and not self.is_idle:
-            self.pulled(*read(bytes.fromhex(words[1])))
+        holds(words[0] not in ("fault", "refused"), "the frames of the script are without a fault")
+        if was_idle:
+            self.windows = {own: given[-1:] for own, given in self.windows.items()}
+        match words:
+            case ["feed", "-"] | ["pull"]:
+                pass
+            case ["feed", data]:
+                frames, self.input = amqp.cut(self.input + bytes.fromhex(data))
+                for frame in frames:
+                    self.meet(frame, self.fed, "fed")
+            case ["pull", data]:
+                frames, left = amqp.cut(bytes.fromhex(data))
+                holds(len(frames) == 1 and not left, "a pull answers one frame")
+                self.meet(frames[0], self.pulled, "pulled")
+            case _:
+                if words == ["break"]:
+                    self.connect()
+                for it in self.others:
+                    it.hear(words)
 
-    def fed(self, channel, _size, code, first, second, third):
-        if code == OPEN:
-            self.limit = 2**32 - 1 if third is None else third
-        elif code == BEGIN:
-            self.own[channel], self.window[first] = first, (self.first[first], third)
-        elif code == FLOW:
-            own = self.own[channel]
-            self.window[own] = (self.first[own] if first is None else first, second)
+    def meet(self, data, own, others):
+        """A frame passes, or the protocol header."""
+        if data == amqp.HEADER:
+            return
+        frame = amqp.read_frame(data)
+        own(frame)
+        for it in self.others:
+            getattr(it, others)(frame)
 
-    def pulled(self, channel, size, code, _first, second, _third):
-        holds(size <= self.limit, f"a frame has at most {self.limit} bytes, not {size}")
-        if code == BEGIN:
-            self.first[channel] = self.next[channel] = second
-        elif code == TRANSFER:
-            number, (base, width) = self.next[channel], self.window[channel]
-            holds((number - base) % 2**32 < width, f"transfer {number} is one of {width} from {base} on")
-            self.next[channel] = (number + 1) % 2**32
+    def fed(self, frame):
+        if frame.code == amqp.OPEN:
+            self.limit = frame.field(2, 2**32 - 1)
+        elif frame.code == amqp.BEGIN and frame.field(0) is None:
+            self.asked[frame.channel] = [(None, frame.field(2))]
+        elif frame.code == amqp.BEGIN:
+            self.own[frame.channel] = frame.field(0)
+            self.give(frame.channel, [], None, frame.field(2))
+        elif frame.code == amqp.FLOW:
+            self.give(frame.channel, self.asked.get(frame.channel, []), frame.field(0), frame.field(1))
+
+    def give(self, channel, asked, base, width):
+        """A window is given: in a session that is asked for, it counts from the own Begin on."""
+        own = self.own.get(channel)
+        given = asked if own is None else self.windows.setdefault(own, [])
+        given.append((base if base is not None or own is None else self.first[own], width))
+
+    def pulled(self, frame):
+        holds(frame.size <= self.limit, f"a frame has at most {self.limit} bytes, not {frame.size}")
+        own = frame.channel
+        if frame.code == amqp.BEGIN:
+            self.first[own] = self.next[own] = frame.field(1)
+            if frame.field(0) is not None:
+                self.own[frame.field(0)], self.windows[own] = own, []
+                for base, width in self.asked.pop(frame.field(0)):
+                    self.give(frame.field(0), [], base, width)
+        elif frame.code == amqp.TRANSFER:
+            number, given = self.next[own], self.windows[own]
+            is_within = any((number - base) % 2**32 < width for base, width in given)
+            holds(is_within, f"transfer {number} is one of a window that was given: {given}")
+            self.next[own] = (number + 1) % 2**32
 
     def at_the_end(self):
+        for it in self.others:
+            it.at_the_end()
         return True
-
-
-def read(frame):
-    """A frame's channel, size and code; and the first three fields of an Open, a Begin or a Flow, which may be none."""
-    if len(frame) == 8:
-        return [None, 8, None, None, None, None]
-    holds(int.from_bytes(frame[:4], "big") == len(frame) and frame[8:10] == b"\0\x53", "the bytes are one frame")
-    wide = {0x45: 0, 0xC0: 1, 0xD0: 4}[frame[11]]
-    at, found = 12 + 2 * wide, []
-    while frame[10] in (OPEN, BEGIN, FLOW) and at < len(frame) and len(found) < 3:
-        form = frame[at]
-        wide = {4: 0, 5: 1, 6: 2, 7: 4, 0xA: 1, 0xB: 4}[form >> 4]
-        number = int.from_bytes(frame[at + 1 : at + 1 + wide], "big")
-        at += 1 + wide + (number if form >= 0xA0 else 0)
-        found.append(None if form == 0x40 or form >= 0xA0 else number)
-    return [int.from_bytes(frame[6:8], "big"), len(frame), frame[10], *found, *[None] * (3 - len(found))]

@@ -40,7 +40,7 @@ class Session:
 @dataclass
 class Link:
     """A link, whose number is the same at both ends. `credit` is what its sender was told that it may still send, and
-    `granted` the most that is left at its receiver."""
+    `granted` the most that is left at its receiver. `broken` are messages that go on once it has credit again."""
 
     number: int
     name: int
@@ -51,6 +51,7 @@ class Link:
     credit: int = 0
     granted: int = 0
     is_untold: bool = False
+    broken: list = field(default_factory=list)
 
     @property
     def receiver(self):
@@ -97,6 +98,12 @@ class End:
         self.came += self.coming
         self.coming = []
 
+    def break_off(self):
+        """What was on its way is lost; an open message of it goes on when its link does."""
+        for message in self.coming:
+            message.link.broken += [message] if message.is_open else []
+        self.coming, self.pending = [], 0
+
     def drop(self, link):
         self.coming = [it for it in self.coming if it.link is not link]
 
@@ -123,7 +130,7 @@ class TwoEnds:
             return self.attach()
         self.weighted({
             self.talk: 120, self.carry: 50, self.attach: 8, self.leave: 8, self.resume: 8, self.begin: 4, self.end: 2,
-            self.connect_anew: 1, self.stray: 5, self.heartbeat: 2,
+            self.connect_anew: 1, self.break_within: 2, self.stray: 5, self.heartbeat: 2,
         })()
 
     # Choices and lines.
@@ -204,12 +211,33 @@ class TwoEnds:
         """The connection is closed or breaks, and both ends connect again."""
         if self.one_in(2):
             self.close()
+        self.break_off()
+        self.connect()
+
+    def break_off(self):
         self.lines.append("break")
         for end in self.ends.values():
-            end.coming, end.pending = [], 0
+            end.break_off()
         for session in self.sessions:
             self.rest(session)
+
+    def break_within(self):
+        """The connection breaks while messages of a link are on their way, mostly within one; on the next one most links
+        attach again, and get credit."""
+        link = self.any_link(Phase.LIVE)
+        if not link:
+            return self.attach()
+        self.grant(link)
+        self.move_all(link.receiver)
+        for _ in range(1 + self.dice.randrange(3)):
+            self.send(link)
+        self.lines.append(f"move {link.sender} {self.dice.randrange(1, self.dice.choice((30, 600, 2000)))}")
+        self.break_off()
         self.connect()
+        for link in [it for it in self.links if it.phase is Phase.RESTING and not self.one_in(4)]:
+            link.attach_again(self.sessions[-1])
+            self.meet(self.say_resume, link)
+            self.grant(link)
 
     def close(self):
         """One end closes, and the other at once too or as it hears of it."""
@@ -369,6 +397,14 @@ class TwoEnds:
         link.granted = more if is_less else min(link.granted + more, 1000)
         link.is_untold = True
         self.say(link.receiver, f"grant {link.number} {link.granted}")
+        self.go_on(link)
+
+    def go_on(self, link):
+        """What its sender has open goes on, and takes credit first."""
+        going, link.broken = link.broken[: link.granted], link.broken[link.granted :]
+        for message in going:
+            self.ends[link.receiver].expect(message, 0)
+        link.granted -= len(going)
 
     def drain(self, link):
         link.tell()
