@@ -1,6 +1,6 @@
 -- What the peer says in a session that has begun, or that it asks for (part 2, 2.5.1, 2.5.2, 2.5.6).
-use Rattle.std.specs.Prelude.{◌≡◌, ◌≢◌, ◌⊎◌, ◌+◌, ◌≤◌, ℕ, ◌*◌, List, [], ◌∷◌, ◌++◌, Bool, true, false, Option, Some, None, Result}
-use Rattle.std.specs.Prelude.{Ok, Err, nat_le}
+use Rattle.std.specs.Prelude.{◌≡◌, ◌≢◌, ◌⊎◌, ◌+◌, ◌≤◌, ℕ, ◌*◌, List, [], ◌∷◌, ◌++◌, Bool, true, false}
+use Rattle.std.specs.Prelude.{Option, Some, None, Result, Ok, Err, nat_le}
 use Rattle.std.specs.Global.{Box}
 use Rattle.amqp_session_types.specs.declared.channels.IncomingChannel.{IncomingChannel}
 use Rattle.amqp_session_types.specs.declared.refusals.SessionError.{SessionError}
