@@ -9,11 +9,6 @@ use Rattle.amqp_session_types.specs.declared.error.Error.{Error}
 use Rattle.amqp_session_types.specs.declared.handles.OutputHandle.{OutputHandle}
 use Rattle.amqp_session_performatives.specs.declared.attach.Attach.{Attach}
 use Rattle.amqp_session_performatives.specs.declared.session_frame.SessionFrame.{SessionFrame}
-use Rattle.amqp_session_outgoing.specs.Queues.{room_behind}
-use Rattle.amqp_session_outgoing.specs.State as sending
-use Rattle.amqp_session_outgoing.specs.declared.frames.Outbound.{Outbound}
-use Rattle.amqp_session_core.specs.declared.batch.BehindFrame.{BehindFrame}
-use Rattle.amqp_session_core.specs.declared.batch.TransferFrame.{TransferFrame}
 use Rattle.amqp_link.specs.declared.end.End.{End}
 use Rattle.amqp_link.specs.declared.relay.AttachTold.{AttachTold}
 use Rattle.amqp_link_sender.specs.declared.attaching.Attaching.{Attaching}
@@ -105,9 +100,6 @@ module _ (talk : Talk) (channel : IncomingChannel) (named : NamedLink) where
                   ∙ ap (λ (n : ℕ). made n handle) (sym held)
                   ∙ ap (λ (h : OutputHandle). made closing.session h) (sym under);
               place = is.place;
-              behind =
-                  subst (λ (h : OutputHandle). room_behind h.0 2 lent.value.session.outgoing.queues ≤ closing.place)
-                  (sym under) is.behind;
             };
       }
 
@@ -159,12 +151,6 @@ module _ (talk : Talk) (closing : Option Closing) (place : HasItsPlace talk clos
   place-lent lent before live same =
       let is : placed-in.session ≡ lent = same_Some _ _ (sym placed-in.live ∙ sym live) in
       subst (λ (s : Linked). HasPlaceToClose s with) (ap (λ (s : Session). s.value) is ∙ sym same) placed-in.place
-
--- what waits stays as room is made
-pub queues-made : (before after : Linked) → MadeRoom before after
-    → after.session.outgoing.queues ≡ before.session.outgoing.queues
-queues-made before after made =
-    ap (λ (o : sending.State TransferFrame BehindFrame). o.queues) (made.made).reserves.0
 
 -- it is made ready in the session that the channel reaches
 module _ (limit : ℕ) (old : Talk) (channel : IncomingChannel) (named : NamedLink) (it : Attach) (len capacity : ℕ)
@@ -228,17 +214,6 @@ module _ (limit : ℕ) (old : Talk) (channel : IncomingChannel) (named : NamedLi
                     ∙ ap (λ (c : Closing). with_these n (open_count (end_at after with.handle)) c.place)
                     (sym is.closing);
                 place = sends.place;
-                behind =
-                    subst
-                    (λ (c : Closing). room_behind with.handle.0 2 after.session.outgoing.queues ≤ c.place)
-                    (sym is.closing)
-                    (subst
-                    (λ (qs : List (ℕ × List (Outbound TransferFrame BehindFrame))).
-                    room_behind with.handle.0 2 qs ≤ with.place)
-                    (ap (λ (s : Session). s.value.session.outgoing.queues) lent-is
-                    ∙ ap (λ (s : Linked). s.session.outgoing.queues) (sym same)
-                    ∙ sym (queues-made before after made))
-                    (waits-on.is).behind);
               };
           giving =
               subst (λ (o : Option End). IsMadeReady limit with.handle (planned_at o it) ready.giving)

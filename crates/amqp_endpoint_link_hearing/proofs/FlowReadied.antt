@@ -13,6 +13,7 @@ use Rattle.amqp_session_performatives.specs.declared.link_flow.LinkFlow.{LinkFlo
 use Rattle.amqp_session_performatives.specs.declared.session_frame.SessionFrame.{SessionFrame}
 use Rattle.amqp_session_outgoing.specs.Frames.{HaveTags}
 use Rattle.amqp_session_outgoing.specs.Queues.{frames_in, room_behind}
+use Rattle.amqp_session_outgoing.specs.State as sending
 use Rattle.amqp_session_outgoing.specs.declared.frames.Outbound.{Outbound}
 use Rattle.amqp_session_core.specs.State.{link_at}
 use Rattle.amqp_session_core.specs.declared.batch.BehindFrame.{BehindFrame}
@@ -50,7 +51,6 @@ use Rattle.amqp_endpoint_link_hearing.specs.Reached.{link_under}
 use Rattle.amqp_endpoint_link_hearing.specs.ReadyOn.{AreToGoOn, CanBeReadied, CanBeReadiedIn, IsReadied}
 use Rattle.amqp_endpoint_link_hearing.specs.ReadyOn.{IsToGoOn, ServesOn, ServesToGoOn, count_in}
 use Rattle.amqp_endpoint_link_hearing.specs.declared.flowing.Planned.{Planned}
-use Rattle.amqp_endpoint_link_hearing.proofs.AttachReadied.{queues-made}
 use Rattle.amqp_endpoint_link_hearing.proofs.Attaches.{room-goes, room-rests}
 use Rattle.amqp_endpoint_link_hearing.proofs.Doing.{done-goes, done-rests}
 use Rattle.amqp_endpoint_link_hearing.proofs.Lending.{lives}
@@ -75,7 +75,6 @@ deep-closing s number handle count closing deep place becomes is enough =
                       subst (λ (h : OutputHandle). room_behind h.0 1 s.session.outgoing.queues ≤ place) (sym under)
                       (omega (arith, enough, room-most handle.0 0 s.session.outgoing.queues));
                 };
-            behind = omega (arith, enough, room-most handle.0 1 s.session.outgoing.queues);
           };
       deep = enough;
     })
@@ -253,6 +252,10 @@ module _ (old : Talk) (channel : IncomingChannel) (flow : Flow) (planned : Optio
   link-still : link_at after.session with.closing.handle.0 ≡ Some lets.link
   link-still = ap (λ (s : Linked). link_at s.session with.closing.handle.0) after-is ∙ lets.there
 
+  queues-still : after.session.outgoing.queues ≡ before.session.outgoing.queues
+  queues-still =
+      ap (λ (o : sending.State TransferFrame BehindFrame). o.queues) (made.made).reserves.0
+
   pub readied : (limit len capacity : ℕ) (ready : FlowReady) → ready.closing ≡ with.closing
       → AreReadyOn limit with.closing.handle with.ons.items ready.sending
       → All HaveTags ready.sending.batches.items → HasRoomToGoOn ready 2 after len capacity
@@ -269,7 +272,7 @@ module _ (old : Talk) (channel : IncomingChannel) (flow : Flow) (planned : Optio
       let deep : frames_in after.session.outgoing.queues + 2 ≤ with.closing.place =
       subst
       (λ (qs : List (ℕ × List (Outbound TransferFrame BehindFrame))). frames_in qs + 2 ≤ with.closing.place)
-      (sym (queues-made before after made)) (lets.closing).deep in
+      (sym queues-still) (lets.closing).deep in
       record {
         named = on.named;
         names = on.names;

@@ -26,7 +26,6 @@ pub mod Ready
 pub mod Handed
 pub mod Attached
 pub mod AttachDone
-pub mod Places
 pub mod CutOn
 pub mod SentOn
 pub mod Credited

@@ -37,8 +37,7 @@ pub record HasPlaceToClose (s : Linked) (closing : Closing) : Type 0 where
   pub serves : room_behind closing.handle.0 1 s.session.outgoing.queues ≤ closing.place
 
 -- That with which the link is closed that has this own handle in the session with this number, of whose messages so
--- many are open: its Detach says that it isn't allowed (2.8.15). There is a place for it also behind a Flow of the link
--- that comes to wait before.
+-- many are open: its Detach says that it isn't allowed (2.8.15).
 pub record IsClosing (s : Linked) (number : ℕ) (own : OutputHandle) (opened : ℕ) (closing : Closing) : Type 0 where
   pub is : closing ≡ record {
     session = number;
@@ -48,7 +47,6 @@ pub record IsClosing (s : Linked) (number : ℕ) (own : OutputHandle) (opened : 
     place = closing.place;
   }
   pub place : HasPlaceToClose s closing
-  pub behind : room_behind own.0 2 s.session.outgoing.queues ≤ closing.place
 
 -- The deliveries that the link gives up, with what it is closed with.
 pub record IsReadyWith (limit : ℕ) (aborts : List Abort) (with : Closing) (ready : AttachReady) : Type 0 where

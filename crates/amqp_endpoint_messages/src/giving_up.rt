@@ -84,7 +84,7 @@ pub fn make_closing(
     ensures { IfOk result (IsClosing session.now number handle count) }
 {
     let why = not_allowed(alloc)?;
-    match session.session.place_behind_more(alloc, handle, 2) {
+    match session.session.place_behind_more(alloc, handle, 1) {
         Ok(place) => Ok(Closing {
             session: number,
             handle,
