@@ -28,7 +28,8 @@ pub fn take_kept(
     requires there { IsSome (link_at session.old.session handle.0) }
     requires place { room_behind handle.0 1 session.old.session.outgoing.queues ≤ place }
     requires room { deque_len out.old < deque_capacity out.old }
-    ensures { TakesKept handle kept session.old out.old.items session.new out.new.items }
+    ensures takes { TakesKept handle kept session.old out.old.items session.new out.new.items }
+    ensures capacity { deque_capacity out.new ≡ deque_capacity out.old }
 {
     match kept {
         Some(flow) => {
@@ -76,7 +77,8 @@ fn send_reply<R: LinkRelay>(
     requires there { IsSome (link_at session.old handle.0) }
     requires place { room_behind handle.0 1 session.old.outgoing.queues ≤ place }
     requires room { deque_len out.old < deque_capacity out.old }
-    ensures { Replies R.gives handle reply session.old out.old.items session.new out.new.items }
+    ensures replies { Replies R.gives handle reply session.old out.old.items session.new out.new.items }
+    ensures capacity { deque_capacity out.new ≡ deque_capacity out.old }
 {
     let Some(flow) = reply else {
         return;

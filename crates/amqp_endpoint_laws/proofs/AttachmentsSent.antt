@@ -30,7 +30,7 @@ use Rattle.amqp_endpoint_tables.specs.declared.link_place.LinkPlace.TheVariants.
 use Rattle.amqp_endpoint_tables.specs.State.{live_at}
 use Rattle.amqp_endpoint_tables.proofs.Owning.{same_number}
 use Rattle.amqp_endpoint_conversation.specs.Windows.{Came, Passing, went}
-use Rattle.amqp_endpoint_laws.specs.Attachments.{attaches_in, attachment, bodies_of, uses}
+use Rattle.amqp_endpoint_laws.specs.Attachments.{attaches_in, attachment, bodies_of, gone_in, uses}
 use Rattle.amqp_endpoint_laws.specs.Passed.{PassesIn, called_in, is_it, passes_in, sent_in, session_taking}
 use Rattle.amqp_endpoint_laws.specs.Queued.{SayAll, SayMessages, pieces_on, pieces_waiting}
 use Rattle.amqp_endpoint_laws.specs.Handed.{pieces_come}
@@ -39,15 +39,14 @@ use Rattle.amqp_endpoint_laws.specs.Taken.{NoneAttaches}
 use Rattle.amqp_endpoint_laws.proofs.Attachments.{NoneTakes, attaches-both, bodies-both, none-both, none-comes}
 use Rattle.amqp_endpoint_laws.proofs.Attachments.{pieces-alike}
 use Rattle.amqp_endpoint_laws.proofs.AttachmentsCalled.{AttachesOnce, attaches-once, call-none, take-none}
-use Rattle.amqp_endpoint_laws.proofs.Placing.{IsPlaced, held-place, is-again, is-new, own-handle, own-name, own-role}
-use Rattle.amqp_endpoint_laws.proofs.GivenUp.{AllAborted}
+use Rattle.amqp_endpoint_laws.proofs.Placing.{IsPlaced, held-place, is-again, is-new, link-entered, own-handle}
+use Rattle.amqp_endpoint_laws.proofs.Placing.{own-name, own-role}
 use Rattle.amqp_endpoint_laws.proofs.LinksKept.{BackGoesOn, FinishedGoesOn, LeftGoesOn}
 use Rattle.amqp_endpoint_laws.proofs.LinksStay.{entered-before, held-since}
+use Rattle.amqp_endpoint_laws.proofs.Opening.{Opened}
 use Rattle.amqp_endpoint_laws.proofs.PassedSteps.{sent-append, sent-went}
-use Rattle.amqp_endpoint_laws.proofs.QueuedAttached.{HandlesApart, HandlesStand, Reached, aborted-sent, is-entered}
-use Rattle.amqp_endpoint_laws.proofs.QueuedSaid.{says-behind}
-use Rattle.amqp_endpoint_laws.proofs.QueuedAttached.{link-entered, reached-apart, reached-new, reached-on, same-handle}
-use Rattle.amqp_endpoint_laws.proofs.QueuedAttached.{says-all}
+use Rattle.amqp_endpoint_laws.proofs.QueuedAttached.{HandlesApart, HandlesStand, Reached, is-entered, reached-apart}
+use Rattle.amqp_endpoint_laws.proofs.QueuedAttached.{reached-new, reached-on, same-handle, says-all}
 use Rattle.amqp_endpoint_laws.proofs.QueuedOrder.{pieces-both}
 use Rattle.amqp_endpoint_laws.proofs.QueuedSince.{done-of}
 use Rattle.amqp_endpoint_laws.proofs.TakenRead.{attachment-read, named-so}
@@ -178,11 +177,9 @@ module _ (handles_apart : HandlesApart) (handles_stand : HandlesStand) (back_on 
           (none-since deeds mid new rest never.1 reached-mid others entered-mid held))))
 
     module _ (sessions old new end : LinkedSessions) (settings : Settings) (before since_then : List Deed)
-        (number link limit : ℕ) (it : End) (events : List Event) (frames : List SessionFrame) (deed : Deed)
-        (first passings : List Passing) (handle : OutputHandle) (session : Session)
+        (number link : ℕ) (deed : Deed) (first passings : List Passing) (handle : OutputHandle) (session : Session)
         (fresh : IsNew linked settings sessions) (passed : PassesIn number sessions before old first)
-        (a : IsPlaced old.talk old.links limit number it link events frames new.talk new.links)
-        (sends : role_of it ≡ Sender) (d : IsDeed linked old deed new)
+        (o : Opened old new deed number link) (sends : role_of o.it ≡ Sender) (d : IsDeed linked old deed new)
         (passes : PassesIn number new since_then end passings)
         (held : link_place end.links link ≡ Some (Held number handle))
         (live : live_at end.talk.sessions number ≡ Some session) (never : NeverResumed link since_then)
@@ -190,27 +187,26 @@ module _ (handles_apart : HandlesApart) (handles_stand : HandlesStand) (back_on 
         done : AreDone linked sessions before old
         done = done-of number before sessions old first passed
 
-        abbrev once : AttachesOnce it a.placed.handle frames
-        once = attaches-once old new limit number it link events frames a
+        abbrev frames : List SessionFrame
+        frames = gone_in deed
 
-        -- by the call itself deliveries are given up alone
-        given-up : AllAborted (pieces_on handle.0 once.later)
-        given-up =
-            subst (λ (fs : List SessionFrame). AllAborted (pieces_on handle.0 fs)) once.are
-            (aborted-sent handles_apart handles_stand back_on left_on finished_on sessions old new end settings before
-            since_then number link limit it events frames deed passings handle fresh done a d passes held never)
+        abbrev a : IsPlaced old.talk old.links o.limit number o.it link o.events frames new.talk new.links
+        a = o.placed
+
+        abbrev once : AttachesOnce o.it a.placed.handle frames
+        once = attaches-once old new o.limit number o.it link o.events frames a
 
         -- it is read as what goes with its handle
-        attachment-is : attachment (name_of it) (uses (name_of it) (bodies_of (sent_in first)))
+        attachment-is : attachment (name_of o.it) (uses (name_of o.it) (bodies_of (sent_in first)))
             (bodies_of (sent_in first ++ frames ++ sent_in passings))
             ≡ pieces_on handle.0 once.later ++ pieces_on handle.0 (sent_in passings)
         attachment-is =
             let own : once.attach.handle.0 ≡ handle.0 =
             once.handled
-            ∙ own-handle it a.placed.handle
+            ∙ own-handle o.it a.placed.handle
             ∙ ap (λ (h : OutputHandle). h.0)
             (same-handle handles_apart handles_stand back_on left_on finished_on sessions old new end settings before
-            since_then number link limit it events frames deed passings handle fresh done a d passes held never) in
+            since_then number link deed passings handle fresh done o d passes held never) in
             let later : List SessionFrame = once.later ++ sent_in passings in
             let none : NoneTakes handle.0 (attaches_in later) =
             subst (λ (xs : List Attach). NoneTakes handle.0 xs)
@@ -219,41 +215,48 @@ module _ (handles_apart : HandlesApart) (handles_stand : HandlesStand) (back_on 
             ∙ ap (λ (xs : List Attach). xs ++ attaches_in (sent_in passings)) once.none))
             (none-since link number handle since_then new end passings never
             (reached-new handles_apart handles_stand back_on left_on finished_on sessions old new end settings before
-            since_then number link limit it events frames deed passings handle fresh done a d passes held never)
+            since_then number link deed passings handle fresh done o d passes held never)
             passes
             (is-entered handles_apart handles_stand back_on left_on finished_on sessions old new end settings before
-            since_then number link limit it events frames deed passings handle fresh done a d passes held never)
+            since_then number link deed passings handle fresh done o d passes held never)
             held) in
-            ap (λ (came : List FrameBody). attachment (name_of it) (uses (name_of it) (bodies_of (sent_in first))) came)
+            ap
+            (λ (came : List FrameBody).
+            attachment (name_of o.it) (uses (name_of o.it) (bodies_of (sent_in first))) came)
             (ap (λ (fs : List SessionFrame). bodies_of (sent_in first ++ fs ++ sent_in passings)) once.are
             ∙ ap bodies_of (append_assoc (sent_in first) _ (sent_in passings))
             ∙ bodies-both (sent_in first) _)
-            ∙ attachment-read (name_of it) once.attach (bodies_of (sent_in first)) (bodies_of later)
-            (named-so (name_of it) once.attach (once.named ∙ own-name it a.placed.handle)
-            (once.sided ∙ own-role it a.placed.handle ∙ sends))
+            ∙ attachment-read (name_of o.it) once.attach (bodies_of (sent_in first)) (bodies_of later)
+            (named-so (name_of o.it) once.attach (once.named ∙ own-name o.it a.placed.handle)
+            (once.sided ∙ own-role o.it a.placed.handle ∙ sends))
             (subst (λ (h : ℕ). NoneAttaches h (bodies_of later)) (sym own) (none-comes handle.0 later none))
             ∙ ap (λ (h : ℕ). pieces_come h (bodies_of later)) own
             ∙ pieces-alike handle.0 later
             ∙ pieces-both handle.0 once.later (sent_in passings)
 
-        pub attachment-says : SayAll link new since_then end
-            (attachment (name_of it) (uses (name_of it) (bodies_of (sent_in first)))
+        -- that is what passed by the call, but for its Attach, and since then
+        passed-is : pieces_on handle.0 (sent_in (passes_in number old deed ++ passings))
+            ≡ pieces_on handle.0 once.later ++ pieces_on handle.0 (sent_in passings)
+        passed-is =
+            ap (λ (fs : List SessionFrame). pieces_on handle.0 fs)
+            (sent-append (passes_in number old deed) passings
+            ∙ ap (λ (ps : List Passing). sent_in ps ++ sent_in passings) o.passes
+            ∙ ap (λ (fs : List SessionFrame). fs ++ sent_in passings) (sent-went frames ∙ once.are))
+            ∙ pieces-both handle.0 once.later (sent_in passings)
+
+        pub attachment-says : SayAll link old (deed ∷ since_then) end
+            (attachment (name_of o.it) (uses (name_of o.it) (bodies_of (sent_in first)))
             (bodies_of (sent_in first ++ frames ++ sent_in passings))
             ++ pieces_waiting handle.0 session.value.session)
         attachment-says =
             let waiting : List Piece = pieces_waiting handle.0 session.value.session in
-            let passed : List Piece = pieces_on handle.0 (sent_in passings) in
             let all =
             says-all handles_apart handles_stand back_on left_on finished_on sessions old new end settings before
-            since_then number link limit it events frames deed passings handle fresh done a d passes held never session
-            live in
+            since_then number link deed passings handle fresh done o d passes held never session live in
             record {
               messages = all.messages;
               are = all.are;
               say =
                   subst (λ (ps : List Piece). SayMessages ps all.messages)
-                  (sym
-                  (ap (λ (ps : List Piece). ps ++ waiting) attachment-is
-                  ∙ append_assoc (pieces_on handle.0 once.later) passed waiting))
-                  (says-behind (pieces_on handle.0 once.later) (passed ++ waiting) all.messages given-up all.say);
+                  (ap (λ (ps : List Piece). ps ++ waiting) (passed-is ∙ sym attachment-is)) all.say;
             }

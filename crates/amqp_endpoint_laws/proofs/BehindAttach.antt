@@ -15,8 +15,9 @@ use Rattle.amqp_link.specs.Ends.{flowed}
 use Rattle.amqp_link_sender.specs.Saying.{pieces_of}
 use Rattle.amqp_link_sender.specs.declared.attaching.Attaching.{Attaching}
 use Rattle.amqp_link_types.specs.declared.link_error.LinkError.{LinkError}
+use Rattle.amqp_link_sender.specs.declared.sending_on.PreparedSendOn.{PreparedSendOn}
 use Rattle.amqp_link_unsettled.specs.declared.exchanging.Abort.{Abort}
-use Rattle.amqp_endpoint_attached.specs.Kept.{KeptIn, Replies}
+use Rattle.amqp_endpoint_attached.specs.Kept.{KeptIn, Replies, TakesKept}
 use Rattle.amqp_endpoint_attached.specs.Linked.{Linked, LinksIn, gives}
 use Rattle.amqp_endpoint_attached.specs.Links.{with_number}
 use Rattle.amqp_endpoint_conversation.specs.Inside.{accepted_in, accepted_of}
@@ -31,12 +32,14 @@ use Rattle.amqp_endpoint_links.specs.declared.asking.AttachTaken.TheVariants as 
 use Rattle.amqp_endpoint_links.specs.declared.asking.NamedLink.{NamedLink}
 use Rattle.amqp_endpoint_links.specs.declared.asking.NamedLink.TheVariants.{Absent, Attached, Waiting}
 use Rattle.amqp_endpoint_links.specs.declared.hearing.PerformativeTaken.TheVariants as taken
-use Rattle.amqp_endpoint_messages.specs.GivingUp.{AttachedAt, EndsIf, GivesUp, HandsEach, batch_of, fitting}
+use Rattle.amqp_endpoint_messages.specs.GivingUp.{GivesUp, HandsEach, batch_of, fitting}
+use Rattle.amqp_endpoint_messages.specs.GoingOn.{AttachedAt, EndsIf}
+use Rattle.amqp_endpoint_messages.specs.SendingOn.{AreSentOn, ClosesWhere, CreditedAt}
 use Rattle.amqp_endpoint_model.specs.declared.error.EndpointError.{EndpointError}
 use Rattle.amqp_endpoint_model.specs.declared.event.Event.{Event}
 use Rattle.amqp_endpoint_laws.proofs.Behind.{AreBehind, BehindBy, DoneBehind, FollowsBy, IsBehind, LinkAct}
 use Rattle.amqp_endpoint_laws.proofs.Behind.{behind-on, closed-behind, done-on, goes-so, none-done, one-done}
-use Rattle.amqp_endpoint_laws.proofs.Behind.{tells-done}
+use Rattle.amqp_endpoint_laws.proofs.Behind.{same-rest, tells-done}
 use Rattle.amqp_endpoint_laws.proofs.GivenUp.{AllAborted, GiveUp, give-both}
 use Rattle.amqp_endpoint_laws.proofs.HoldingEnds.{flowed-holds}
 
@@ -112,27 +115,69 @@ kept-done handle (Some flow) old new frames t =
     by.changed (refl, inl (flowed-holds by.number by.before flow)) refl)
     (reply-done handle t.reply t.mid new frames t.replies)
 
-ends-behind : (stuck : Option EndpointError) (session count : ℕ) (handle : OutputHandle) (why : Error)
-    (kept : Option LinkFlow) (frames : List SessionFrame) (events : List Event) (old new : Linked)
-    → EndsIf stuck session count handle why kept frames events old new → Behind frames old new
-ends-behind None session count handle why kept frames events old new (t, untold) =
+pub kept-behind : (handle : OutputHandle) (kept : Option LinkFlow) (frames : List SessionFrame) (old new : Linked)
+    → TakesKept handle kept old [] new frames → Behind frames old new
+kept-behind handle kept frames old new t =
     record { done = kept-done handle kept old.session new.session frames t.takes; rest = t.rest }
-ends-behind (Some error) session count handle why kept frames events old new c =
+
+-- nothing goes on of a link that has nothing to send on
+none-sent : (handle : OutputHandle) (batches : List Transfers) (stopped : Bool) (frames : List SessionFrame)
+    (old new : LinksIn) → batches ≡ [] → AreSentOn handle batches old [] stopped new frames
+    → (new ≡ old) × (frames ≡ [])
+none-sent handle [] stopped frames old new none (going, same, silent) = (same, silent)
+none-sent handle (batch ∷ batches) stopped frames old new none s = let clash = none in absurd cc
+
+closes-where : (stuck : Option EndpointError) (session count : ℕ) (handle : OutputHandle) (why : Error)
+    (frames : List SessionFrame) (events : List Event) (old new : Linked)
+    → ClosesWhere stuck session count handle why frames events old new → Behind frames old new
+closes-where None session count handle why frames events old new (none, untold, same) =
+    record {
+      done = none-done old.session new.session frames (ap (λ (x : Linked). x.session) same) none;
+      rest = same-rest old new same;
+    }
+closes-where (Some error) session count handle why frames events old new c =
     closed-behind session error count handle why frames events old new c
 
--- a link that took the Attach
-pub attached-behind : (limit session count : ℕ) (handle : OutputHandle) (why : Error) (aborts : List Abort)
+none-on : (limit session count : ℕ) (handle : OutputHandle) (why : Error) (frames : List SessionFrame)
+    (events : List Event) (old new : Linked)
+    → CreditedAt limit session count handle why [] frames events old new → Behind frames old new
+none-on limit session count handle why frames events old new c =
+    let s = c.sends_on in
+    let (same, none) = none-sent handle s.batches s.stopped c.on old.session (c.gone).session s.cut.0 s.sent in
+    behind-on old c.gone new c.on c.down frames c.frames_are
+    (record { done = none-done old.session (c.gone).session c.on same none; rest = s.rest })
+    (closes-where c.stuck session count handle why c.down events c.gone new c.closes)
+
+ends-behind : (stuck : Option EndpointError) (limit session count : ℕ) (handle : OutputHandle) (why : Error)
     (kept : Option LinkFlow) (frames : List SessionFrame) (events : List Event) (old new : Linked)
-    → AttachedAt limit session count handle why aborts kept frames events old new → Behind frames old new
-attached-behind limit session count handle why aborts kept frames events old new a =
-    behind-on old a.told new [] frames frames refl
+    → EndsIf stuck limit session count handle why kept [] frames events old new → Behind frames old new
+ends-behind None limit session count handle why kept frames events old new c =
+    behind-on old c.mid new c.reply c.on frames c.frames_are (kept-behind handle kept c.reply old c.mid c.takes)
+    (none-on limit session count handle why c.on events c.mid new c.credited)
+ends-behind (Some error) limit session count handle why kept frames events old new c =
+    closed-behind session error count handle why frames events old new c
+
+-- a link that took the Attach tells of messages that ended, and gives deliveries up
+pub up-behind : (limit session count : ℕ) (handle : OutputHandle) (why : Error) (aborts : List Abort)
+    (kept : Option LinkFlow) (ons : List PreparedSendOn) (frames : List SessionFrame) (events : List Event)
+    (old new : Linked) (a : AttachedAt limit session count handle why aborts kept ons frames events old new)
+    → Behind a.up old a.given
+up-behind limit session count handle why aborts kept ons frames events old new a =
+    behind-on old a.told a.given [] a.up a.up refl
     (record {
       done = tells-done count handle (link_at old.session handle.0) old.session a.told.session a.tells.tells;
       rest = a.tells.rest;
     })
-    (behind-on a.told a.given new a.up a.down frames a.frames_are
     (gives-up-behind limit handle aborts a.stuck a.up a.told a.given a.gives_up)
-    (ends-behind a.stuck session count handle why kept a.down a.failed a.given new a.ends))
+
+-- and no more than that where it has nothing to send on
+attached-behind : (limit session count : ℕ) (handle : OutputHandle) (why : Error) (aborts : List Abort)
+    (kept : Option LinkFlow) (frames : List SessionFrame) (events : List Event) (old new : Linked)
+    → AttachedAt limit session count handle why aborts kept [] frames events old new → Behind frames old new
+attached-behind limit session count handle why aborts kept frames events old new a =
+    behind-on old a.given new a.up a.down frames a.frames_are
+    (up-behind limit session count handle why aborts kept [] frames events old new a)
+    (ends-behind a.stuck limit session count handle why kept a.down a.failed a.given new a.ends)
 
 -- whether the link accepts the Attach, or refuses it
 pub takes-behind : (outcome : Result Attaching LinkError) (limit session count : ℕ) (handle : OutputHandle)

@@ -52,8 +52,7 @@ use Rattle.amqp_endpoint_laws.proofs.HoldingWaits.{IsUnattached, unattached}
 use Rattle.amqp_endpoint_laws.proofs.LifePlace.{CameBy, IsUnentered, came-so, unentered-none}
 use Rattle.amqp_endpoint_tables.specs.LinkState.{held_at}
 use Rattle.amqp_endpoint_laws.proofs.PassedPlaces.{eq-same}
-use Rattle.amqp_endpoint_laws.proofs.Placing.{IsPlaced, is-again, is-new}
-use Rattle.amqp_endpoint_laws.proofs.QueuedAttached.{link-entered}
+use Rattle.amqp_endpoint_laws.proofs.Placing.{IsPlaced, is-again, is-new, link-entered}
 
 -- behind the call by which a link attaches, one that is attached is this one, in its place, or was so before
 module _ (old new : LinkedSessions) (limit number : ℕ) (it : End) (link : ℕ) (events : List Event)

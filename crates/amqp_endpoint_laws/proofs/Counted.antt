@@ -106,7 +106,7 @@ placed-unnumbered (Some input) before after limit link placed frames a =
     ap (λ (es : List Event). numbers_told es) a.told
     ∙ both-unnumbered (attached_told placed.link (a.answered).exchange) a.behind refl
     (attached-unnumbered limit placed.session (open_count (Some link)) placed.handle (error_of not_allowed)
-    (a.answered).aborts (a.answered).kept a.frames a.behind a.mid after a.goes)
+    (a.answered).aborts (a.answered).kept _ a.frames a.behind a.mid after a.goes)
 
 link-unnumbered : (old new : Talk) (links links_new : Links) (limit session : ℕ) (link : End) (number : ℕ)
     (events : List Event) (frames : List SessionFrame)

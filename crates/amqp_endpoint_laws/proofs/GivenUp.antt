@@ -21,12 +21,3 @@ aborted-both (p ∷ ps) qs (one, others) are = (one, aborted-both ps qs others a
 pub give-both : (first later : Batches) → GiveUp first → GiveUp later → GiveUp (first ++ later)
 give-both [] later none are = are
 give-both ((handle, batch) ∷ first) later (one, others) are = (one, give-both first later others are)
-
--- so it is with a part of them
-pub aborted-first : (ps qs : List Piece) → AllAborted (ps ++ qs) → AllAborted ps
-aborted-first [] qs are = tt
-aborted-first (p ∷ ps) qs (one, others) = (one, aborted-first ps qs others)
-
-pub aborted-later : (ps qs : List Piece) → AllAborted (ps ++ qs) → AllAborted qs
-aborted-later [] qs are = are
-aborted-later (p ∷ ps) qs (one, others) = aborted-later ps qs others

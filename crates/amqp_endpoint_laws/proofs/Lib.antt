@@ -41,6 +41,7 @@ mod HoldingDone
 mod Behind
 mod BehindAttach
 mod BehindFlow
+mod BehindAnswer
 mod FlowStays
 mod QueuedFlow
 mod QueuedGiven
@@ -59,6 +60,7 @@ mod LifeRuns
 mod QueuedSaid
 mod QueuedOrder
 mod QueuedKept
+mod QueuedPlaced
 mod QueuedSince
 mod QueuedAttached
 mod Attachments

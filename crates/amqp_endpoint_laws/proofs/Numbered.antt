@@ -34,7 +34,8 @@ use Rattle.amqp_endpoint_model.specs.declared.event.Event.{Event}
 use Rattle.amqp_endpoint_linking.specs.Hearing.{begin_told, end_told}
 use Rattle.amqp_endpoint_linking.specs.Linking.{Link, Links, Talk}
 use Rattle.amqp_endpoint_messages.specs.All.{first_told, open_count, told_by}
-use Rattle.amqp_endpoint_messages.specs.GivingUp.{AttachedAt, ClosedFor, EndsIf, attached_told, refused_told}
+use Rattle.amqp_endpoint_messages.specs.GivingUp.{ClosedFor, attached_told, refused_told}
+use Rattle.amqp_endpoint_messages.specs.GoingOn.{AttachedAt, EndsIf}
 use Rattle.amqp_endpoint_links.specs.declared.asking.AttachTaken.TheVariants as answer
 use Rattle.amqp_endpoint_links.specs.declared.hearing.PerformativeTaken.TheVariants as taken
 use Rattle.amqp_endpoint_conversation.specs.declared.hearing.Heard.TheVariants as heard
@@ -85,21 +86,32 @@ closed-unnumbered session error count handle why frames events old new c =
     (both-unnumbered (refused_told session c.link.number error) (first_told count None (link_at c.mid.session handle.0))
     refl (first-unnumbered count None (link_at c.mid.session handle.0)))
 
-ends-unnumbered : (stuck : Option EndpointError) (session count : ℕ) (handle : OutputHandle) (why : Error)
-    (kept : Option LinkFlow) (frames : List SessionFrame) (events : List Event) (old new : Linked)
-    → EndsIf stuck session count handle why kept frames events old new → Unnumbered events
-ends-unnumbered None session count handle why kept frames events old new e = told-unnumbered events [] e.1 refl
-ends-unnumbered (Some error) session count handle why kept frames events old new c =
+-- by messages that are sent on nothing is told
+where-unnumbered : (stuck : Option EndpointError) (session count : ℕ) (handle : OutputHandle) (why : Error)
+    (frames : List SessionFrame) (events : List Event) (old new : Linked)
+    → ClosesWhere stuck session count handle why frames events old new → Unnumbered events
+where-unnumbered None session count handle why frames events old new c = told-unnumbered events [] c.1 refl
+where-unnumbered (Some error) session count handle why frames events old new c =
+    closed-unnumbered session error count handle why frames events old new c
+
+ends-unnumbered : (stuck : Option EndpointError) (limit session count : ℕ) (handle : OutputHandle) (why : Error)
+    (kept : Option LinkFlow) (ons : List PreparedSendOn) (frames : List SessionFrame) (events : List Event)
+    (old new : Linked) → EndsIf stuck limit session count handle why kept ons frames events old new → Unnumbered events
+ends-unnumbered None limit session count handle why kept ons frames events old new e =
+    let c = e.credited in
+    where-unnumbered c.stuck session count handle why c.down events c.gone new c.closes
+ends-unnumbered (Some error) limit session count handle why kept ons frames events old new c =
     closed-unnumbered session error count handle why frames events old new c
 
 pub attached-unnumbered : (limit session count : ℕ) (handle : OutputHandle) (why : Error) (aborts : List Abort)
-    (kept : Option LinkFlow) (frames : List SessionFrame) (events : List Event) (old new : Linked)
-    → AttachedAt limit session count handle why aborts kept frames events old new → Unnumbered events
-attached-unnumbered limit session count handle why aborts kept frames events old new a =
+    (kept : Option LinkFlow) (ons : List PreparedSendOn) (frames : List SessionFrame) (events : List Event)
+    (old new : Linked) → AttachedAt limit session count handle why aborts kept ons frames events old new
+    → Unnumbered events
+attached-unnumbered limit session count handle why aborts kept ons frames events old new a =
     told-unnumbered events _ a.events_are
     (both-unnumbered (first_told count None (link_at old.session handle.0)) a.failed
     (first-unnumbered count None (link_at old.session handle.0))
-    (ends-unnumbered a.stuck session count handle why kept a.down a.failed a.given new a.ends))
+    (ends-unnumbered a.stuck limit session count handle why kept ons a.down a.failed a.given new a.ends))
 
 attach-taken : (outcome : Result Attaching LinkError) (limit session count : ℕ) (handle : OutputHandle) (link : Link)
     (old : Talk) (frames : List SessionFrame) (events : List Event) (new : Talk)
@@ -107,7 +119,7 @@ attach-taken : (outcome : Result Attaching LinkError) (limit session count : ℕ
 attach-taken (Ok made) limit session count handle link old frames events new t =
     told-unnumbered events _ t.told
     (both-unnumbered (attached_told link.number made.exchange) t.behind refl
-    (attached-unnumbered limit session count handle _ made.aborts None frames t.behind t.goes.before.value
+    (attached-unnumbered limit session count handle _ made.aborts None [] frames t.behind t.goes.before.value
     t.goes.after.value t.goes.done))
 attach-taken (Err error) limit session count handle link old frames events new t =
     closed-unnumbered session _ count handle _ frames events t.before.value t.after.value t.done
@@ -125,13 +137,6 @@ attach-becomes limit count (heard.Live session (taken.Attach (answer.ByLink by_l
 attach-becomes limit count it named old attach frames events new b = told-unnumbered events [] b.1 refl
 
 -- what is told behind a Flow
-where-unnumbered : (stuck : Option EndpointError) (session count : ℕ) (handle : OutputHandle) (why : Error)
-    (frames : List SessionFrame) (events : List Event) (old new : Linked)
-    → ClosesWhere stuck session count handle why frames events old new → Unnumbered events
-where-unnumbered None session count handle why frames events old new c = told-unnumbered events [] c.1 refl
-where-unnumbered (Some error) session count handle why frames events old new c =
-    closed-unnumbered session error count handle why frames events old new c
-
 with-unnumbered : (ons : List PreparedSendOn) (limit session count : ℕ) (handle : OutputHandle) (old : Talk)
     (frames : List SessionFrame) (events : List Event) (new : Talk)
     → SendsOnWith ons limit session count handle old frames events new → Unnumbered events

@@ -37,10 +37,13 @@ use Rattle.amqp_endpoint_laws.proofs.AskedCameInside.{failing-keeps, sends-keep}
 use Rattle.amqp_endpoint_laws.proofs.PassedWalk.{AttachGoes, Walk}
 use Rattle.amqp_endpoint_laws.proofs.Placing.{IsPlaced, is-again, is-new}
 
--- a call that sends a message
-abbrev pub IsSend : Call → Type 0
-IsSend (call.Send link message) = Unit {0}
-IsSend it = ⊥
+-- a call that sends a message, or by which a link attaches that may send some on
+abbrev pub MaySend : Call → Type 0
+MaySend (call.Send link message) = Unit {0}
+MaySend (call.AttachSender number settings) = Unit {0}
+MaySend (call.AttachReceiver number settings) = Unit {0}
+MaySend (call.Resume link number) = Unit {0}
+MaySend it = ⊥
 
 -- one by which a link attaches
 abbrev pub IsAttaching : Call → Type 0
@@ -118,10 +121,10 @@ module _ {Allows : Batches → Type 0} (P : ℕ → List Wired → Talk → Talk
       links links_new frames c)
 
   attached : (old new : Talk) (links links_new : LinksBy) (limit session : ℕ) (link : End) (number : ℕ)
-      (events : List Event) (frames : List SessionFrame) → AttachGoes P
+      (events : List Event) (frames : List SessionFrame) → ((accepted : Batches) → Allows accepted) → AttachGoes P
       → IsPlaced old links limit session link number events frames new links_new
       → Q (Some session) (goes frames) old new
-  attached old new links links_new limit session link number events frames first a =
+  attached old new links links_new limit session link number events frames may first a =
       let l = a.attaches in
       let i = l.attaches in
       let s = attaches-inside old new limit session link a.placed l.frames i in
@@ -129,7 +132,7 @@ module _ {Allows : Batches → Type 0} (P : ℕ → List Wired → Talk → Talk
       (subst (λ (fs : List SessionFrame). P session (goes fs) old new) (sym (l.queued ∙ s.are))
       (w.on session (goes (attach_frame i.before.value.session s.attach ∷ [])) (goes s.later) old old new
       (first session s.attach i.before old (i.stepped).0)
-      (w.inside session s.accepted s.later i.before i.after old new (w.quiet s.accepted s.up) i.stepped i.rest s.inside
+      (w.inside session s.accepted s.later i.before i.after old new (may s.accepted) i.stepped i.rest s.inside
       (attached-keeps i.before.value i.after.value limit link a.placed l.frames i.attached.input
       i.attached.attached))))
 
@@ -139,7 +142,7 @@ module _ {Allows : Batches → Type 0} (P : ℕ → List Wired → Talk → Talk
       stays o frames old.talk new.talk none (ap (λ (s : LinkedSessions). s.talk) same)
 
   pub called : (it : Call) (answer : Said) (old new : LinkedSessions) (limit : ℕ) (frames : List SessionFrame)
-      → (IsSend it → (accepted : Batches) → Allows accepted) → (IsAttaching it → AttachGoes P)
+      → (MaySend it → (accepted : Batches) → Allows accepted) → (IsAttaching it → AttachGoes P)
       → Calls old limit it answer frames new
       → Q (called_in old it answer) (goes frames) old.talk new.talk
   called call.Begin (session_begun n) old new limit frames may first c =
@@ -156,13 +159,13 @@ module _ {Allows : Batches → Type 0} (P : ℕ → List Wired → Talk → Talk
       (w.silent None n old.talk new.talk
       (w.told n (answer_of o) old.talk new.talk c.tells (ap (λ (s : LinkedSessions). s.talk) c.rest)))
   called (call.AttachSender n settings) (attaching link events) old new limit frames may first c =
-      attached old.talk new.talk old.links new.links limit n _ link events frames (first tt)
+      attached old.talk new.talk old.links new.links limit n _ link events frames (may tt) (first tt)
       (is-new old.talk new.talk old.links new.links limit n _ link events frames c)
   called (call.AttachReceiver n settings) (attaching link events) old new limit frames may first c =
-      attached old.talk new.talk old.links new.links limit n _ link events frames (first tt)
+      attached old.talk new.talk old.links new.links limit n _ link events frames (may tt) (first tt)
       (is-new old.talk new.talk old.links new.links limit n _ link events frames c)
   called (call.Resume link n) (attaching number events) old new limit frames may first c =
-      attached old.talk new.talk old.links new.links limit n _ link events frames (first tt)
+      attached old.talk new.talk old.links new.links limit n _ link events frames (may tt) (first tt)
       (is-again old.talk new.talk old.links new.links limit n link number events frames c)
   called (call.Detach link) done old new limit frames may first c =
       done-at (detaches false) (link_place old.links link) old.talk new.talk frames (detaches-inside false)

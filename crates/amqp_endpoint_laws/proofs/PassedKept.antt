@@ -53,7 +53,7 @@ use Rattle.amqp_endpoint_conversation.specs.Inside.{Batches}
 use Rattle.amqp_endpoint_conversation.specs.Windows.{Came, Passing, went}
 use Rattle.amqp_endpoint_laws.specs.Conversing.{SessionsAct}
 use Rattle.amqp_endpoint_laws.specs.Passed.{PassesIn, called_in, passes_in, session_taking}
-use Rattle.amqp_endpoint_laws.proofs.PassedCalled.{IsSend, called}
+use Rattle.amqp_endpoint_laws.proofs.PassedCalled.{MaySend, called}
 use Rattle.amqp_endpoint_laws.proofs.PassedHeard.{IsFlow, frame-heard}
 use Rattle.amqp_endpoint_laws.proofs.PassedJudged.{AllPassedBy, PassedBy, attach-judged, coming-judged}
 use Rattle.amqp_endpoint_laws.proofs.PassedJudged.{going-judged, judging}
@@ -299,7 +299,7 @@ closed-still false old told m = subst (AreStill old) (sym m.is) (refl, refl)
 
 -- a deed by which a message is sent, or may be sent on
 abbrev pub IsSending : Deed → Type 0
-IsSending (Does limit it answer frames) = IsSend it
+IsSending (Does limit it answer frames) = MaySend it
 IsSending (Takes limit frame frames events) = IsFlow frame.body
 IsSending deed = ⊥
 
@@ -361,7 +361,7 @@ module _ {Allows : Batches → Type 0} (J : ℕ → Option Stood → List Passin
       events may h.0)
 
   call-judges : (limit : ℕ) (it : Call) (answer : Said) (frames : List SessionFrame) (old new : LinkedSessions)
-      → (IsSend it → (accepted : Batches) → Allows accepted) → linked.calls old limit it answer frames new
+      → (MaySend it → (accepted : Batches) → Allows accepted) → linked.calls old limit it answer frames new
       → AllPassed J k (called_in old it answer) (went frames) old.talk new.talk
   call-judges limit it answer frames old new may c =
       going-judged J k (called_in old it answer) frames old.talk new.talk

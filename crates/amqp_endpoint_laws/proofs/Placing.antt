@@ -10,7 +10,7 @@ use Rattle.amqp_endpoint_attached.specs.Links.{own_attach}
 use Rattle.amqp_session_types.specs.declared.handles.OutputHandle.{OutputHandle}
 use Rattle.amqp_endpoint_model.specs.declared.event.Event.{Event}
 use Rattle.amqp_endpoint_tables.specs.LinkState.{held_at, held_of}
-use Rattle.amqp_endpoint_tables.specs.LinkSteps.{Holds, Step}
+use Rattle.amqp_endpoint_tables.specs.LinkSteps.{Enters, Holds, Step}
 use Rattle.amqp_endpoint_tables.specs.OwnLinks.{slot_at}
 use Rattle.amqp_endpoint_tables.specs.declared.link_place.LinkPlace.{LinkPlace}
 use Rattle.amqp_endpoint_tables.specs.declared.link_place.LinkPlace.TheVariants.{AtRest, Held}
@@ -20,6 +20,7 @@ use Rattle.amqp_endpoint_link_calls.specs.Attaching.{AttachesIn, with_room}
 use Rattle.amqp_endpoint_link_calls.specs.Naming.{name_of}
 use Rattle.amqp_endpoint_link_calls.specs.declared.placed.Placed.{Placed}
 use Rattle.amqp_endpoint.specs.Attaching.{LinkAttached, LinkResumed}
+use Rattle.amqp_endpoint.specs.declared.linked.LinkedSessions.{LinkedSessions}
 use Rattle.amqp_endpoint_laws.proofs.Parted.{entered, holder}
 
 -- what it hands out
@@ -81,6 +82,19 @@ module _ (old new : Talk) (links links_new : Links) (limit session : ℕ) where
         held = ap holder is;
         other = λ n apart. (at n links (Holds it.link session it.handle i.link) links_new holds).other apart;
       }
+
+-- a new one was in no table before, and is held there under its handle
+module _ (old new : LinkedSessions) (limit number : ℕ) (it : End) (link : ℕ) (events : List Event)
+    (frames : List SessionFrame)
+    (a : LinkAttached old.talk old.links limit number it link events frames new.talk new.links) where
+  pub link-entered : (slot_at old.links link ≡ None)
+      × (slot_at new.links link ≡ Some (Some (record { name = name_of it; place = Held number a.placed.handle })))
+  link-entered =
+      let (none, some) =
+      (at a.placed.link (with_room old.links) (Enters a.placed.link (name_of it) number a.placed.handle) new.links
+      a.attaches.entered).about
+      (eq-eqb a.placed.link a.placed.link refl) in
+      (ap (λ (k : ℕ). slot_at old.links k) a.numbered ∙ none, ap (λ (k : ℕ). slot_at new.links k) a.numbered ∙ some)
 
 -- the own Attach of a link has its name, its handle and its role
 pub own-name : (it : End) (handle : OutputHandle) → (own_attach it handle).name ≡ name_of it

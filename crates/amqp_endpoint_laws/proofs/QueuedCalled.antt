@@ -22,7 +22,7 @@ use Rattle.amqp_endpoint_tables.specs.declared.link_place.LinkPlace.TheVariants.
 use Rattle.amqp_endpoint_tables.specs.State.{live_at}
 use Rattle.amqp_endpoint_conversation.specs.Windows.{Passing}
 use Rattle.amqp_endpoint_laws.specs.Opening.{OpensBy, those_behind}
-use Rattle.amqp_endpoint_laws.specs.Passed.{PassesIn}
+use Rattle.amqp_endpoint_laws.specs.Passed.{PassesIn, passes_in}
 use Rattle.amqp_endpoint_laws.specs.Queued.{Message, SaysSince, message_done, messages_by, messages_done}
 use Rattle.amqp_endpoint_laws.specs.Resumed.{NeverCalledAgain, NeverResumed}
 use Rattle.amqp_endpoint_laws.proofs.Again.{never-resumed}
@@ -140,7 +140,6 @@ module _ (back_on : BackGoesOn) (left_on : LeftGoesOn) (finished_on : FinishedGo
         → PassesIn number next a.since end.sessions passings → SaysIt did
     says-since held live passings passes =
         let deed : Deed = Does a.limit it answer a.frames in
-        let o = opened old next number link deed one opens in
         record {
           before = a.before;
           limit = a.limit;
@@ -148,16 +147,14 @@ module _ (back_on : BackGoesOn) (left_on : LeftGoesOn) (finished_on : FinishedGo
           since = a.since;
           are = a.are;
           old = old;
-          new = next;
           came = came;
-          attached = one;
-          passings = passings;
-          passes = passes;
+          passings = passes_in number old deed ++ passings;
+          passes = (next, passings, one, passes, refl);
           by_calls = sym messages-since;
           says =
               says-all handles_apart handles_stand back_on left_on finished_on sessions old next end.sessions settings
-              a.before a.since number link o.limit o.it o.events a.frames deed passings handle new came o.placed one
-              passes held never-since session live;
+              a.before a.since number link deed passings handle new came (opened old next number link deed one opens)
+              one passes held never-since session live;
         }
 
   pub says-called : slice_get (calls_done calls told) n ≡ Some (it, answer)

@@ -1,30 +1,40 @@
 -- A link sends messages on: what its transfers say.
 use Rattle.std.proofs.Common.{◌≡◌, ◌==◌, ℕ, zero, suc, Bool, true, false, List, [], ◌∷◌, ◌++◌, Option}
-use Rattle.std.proofs.Common.{Some, None, ap, append-nil, append_assoc, refl, sym, subst, take, ◌∙◌}
-use Rattle.std.specs.Prelude.{◌-◌, if◌then◌else◌, map, option_map}
+use Rattle.std.proofs.Common.{Some, None, Ok, Err, ap, append-nil, append_assoc, refl, sym, subst, take, ◌∙◌}
+use Rattle.std.specs.Prelude.{◌-◌, Result, if◌then◌else◌, map, option_map}
 use Rattle.amqp_session_types.specs.declared.handles.OutputHandle.{OutputHandle}
+use Rattle.amqp_session_performatives.specs.declared.attach.Attach.{Attach}
 use Rattle.amqp_session_performatives.specs.declared.link_flow.LinkFlow.{LinkFlow}
 use Rattle.amqp_session_performatives.specs.declared.transfer.Transfer.{Transfer}
 use Rattle.amqp_session_core.specs.Batch.{Transfers}
+use Rattle.amqp_link_base.specs.Flows.{attached, sender_flowed}
 use Rattle.amqp_link_base.specs.Readings.{Piece}
 use Rattle.amqp_link_base.specs.Said.{begun, whole}
 use Rattle.amqp_link_base.specs.State.{is_attached}
 use Rattle.amqp_link_unsettled.specs.Exchanging.{bytes_before}
-use Rattle.amqp_link_unsettled.specs.Messages.{MessageLists, open_at}
+use Rattle.amqp_link_types.specs.declared.link_error.LinkError.{LinkError}
+use Rattle.amqp_link_unsettled.specs.Messages.{MessageLists, no_messages, open_at}
 use Rattle.amqp_link_unsettled.specs.declared.open.Open.{Open}
 use Rattle.amqp_link_unsettled.specs.declared.open.Resumption.{Resumption}
 use Rattle.amqp_link_unsettled.specs.declared.open.Resumption.TheVariants.{Resend, Resume}
 use Rattle.amqp_link_unsettled.specs.declared.open.Waiting.{Waiting}
+use Rattle.amqp_link_receiver.specs.State.{credit_from}
 use Rattle.amqp_link_sender.specs.Saying.{pieces_of}
 use Rattle.amqp_link_sender.specs.SendsOn.{going_on, headed, prepared_on, prepared_waiting, resumed_behind}
 use Rattle.amqp_link_sender.specs.declared.sending_on.PreparedSendOn.{PreparedSendOn}
 use Rattle.amqp_link_sender.proofs.SayingLemmas.{split-read}
 use Rattle.amqp_link_sender.specs.Sending.{flowed}
 use Rattle.amqp_link.specs.GoingOn.{goes_on, sends_on_by}
+use Rattle.amqp_link.specs.Preparing.{attach_planned}
 use Rattle.amqp_link.specs.declared.end.End.{End}
 use Rattle.amqp_link.specs.declared.end.End.TheVariants.{Receiver, Sender}
+use Rattle.amqp_link.specs.declared.preparing.PreparedAttach.{PreparedAttach}
+use Rattle.amqp_link.specs.declared.preparing.PreparedAttach.TheVariants as prepared
+use Rattle.amqp_endpoint_attached.specs.Links.{receiver_by, sender_by}
+use Rattle.amqp_endpoint_messages.specs.GoingOn.{on_answered, on_planned}
 use Rattle.amqp_endpoint_messages.specs.Sending.{on_handle}
 use Rattle.amqp_endpoint_messages.specs.SendingOn.{AreCutOn, IsCutOn}
+use Rattle.amqp_endpoint_model.specs.declared.link.LinkSettings.{LinkSettings}
 use Rattle.amqp_endpoint_laws.specs.Queued.{Message, SayMessages, message_on}
 use Rattle.amqp_endpoint_laws.proofs.BehindFlow.{by_link}
 use Rattle.amqp_endpoint_laws.proofs.PassedPlaces.{eq-same}
@@ -76,6 +86,56 @@ all-so (Sender s) = by (is_attached s.base.local_state)
 pub by-so : (link : End) (it : LinkFlow) → AreSaidOn (sends_on_by link it)
 by-so (Receiver r) it = tt
 by-so (Sender s) it = all-so (Sender (flowed s it))
+
+-- so it is of those that go on as a link answers an Attach of the peer's
+planned-so : (link : End) (planned : Result PreparedAttach LinkError) (kept : Option LinkFlow)
+    → AreSaidOn (on_planned link planned kept)
+planned-so (Sender s) (Ok (prepared.Sender plan)) (Some flow) =
+    going-so s.messages plan.messages.waiting
+    (sender_flowed (attached s.flow s.flow.delivery_count) flow).link_credit
+planned-so (Sender s) (Ok (prepared.Receiver plan)) (Some flow) = tt
+planned-so (Receiver r) (Ok plan) (Some flow) = tt
+planned-so link (Ok plan) None = tt
+planned-so link (Err error) None = tt
+planned-so link (Err error) (Some flow) = tt
+
+pub answered-so : (link : End) (attach : Attach) (kept : Option LinkFlow) → AreSaidOn (on_answered link attach kept)
+answered-so link attach kept = planned-so link (attach_planned link attach) kept
+
+-- a new link has no open messages, so none goes on
+none-going : (ws : List Waiting) (credit : ℕ) → going_on no_messages ws credit ≡ []
+none-going [] credit = refl
+none-going (w ∷ ws) credit = by (credit == 0)
+  where
+    by : (b : Bool)
+        → (if b then [] else headed (prepared_waiting no_messages w) (going_on no_messages ws (credit - 1))) ≡ []
+    by true = refl
+    by false = refl
+
+sender-none : (its : LinkSettings) (planned : Result PreparedAttach LinkError) (kept : Option LinkFlow)
+    → on_planned (sender_by its) planned kept ≡ []
+sender-none its (Ok (prepared.Sender plan)) (Some flow) =
+    let s = credit_from its.initial_delivery_count in
+    none-going plan.messages.waiting (sender_flowed (attached s s.delivery_count) flow).link_credit
+sender-none its (Ok (prepared.Receiver plan)) (Some flow) = refl
+sender-none its (Ok plan) None = refl
+sender-none its (Err error) None = refl
+sender-none its (Err error) (Some flow) = refl
+
+pub new-sender-none : (its : LinkSettings) (attach : Attach) (kept : Option LinkFlow)
+    → on_answered (sender_by its) attach kept ≡ []
+new-sender-none its attach kept = sender-none its (attach_planned (sender_by its) attach) kept
+
+receiver-none : (its : LinkSettings) (planned : Result PreparedAttach LinkError) (kept : Option LinkFlow)
+    → on_planned (receiver_by its) planned kept ≡ []
+receiver-none its (Ok plan) (Some flow) = refl
+receiver-none its (Ok plan) None = refl
+receiver-none its (Err error) None = refl
+receiver-none its (Err error) (Some flow) = refl
+
+pub new-receiver-none : (its : LinkSettings) (attach : Attach) (kept : Option LinkFlow)
+    → on_answered (receiver_by its) attach kept ≡ []
+new-receiver-none its attach kept = receiver-none its (attach_planned (receiver_by its) attach) kept
 
 -- the transfers of one link alone
 pub pieces-own : (handle : OutputHandle) (batch : Transfers) (batches : List Transfers)

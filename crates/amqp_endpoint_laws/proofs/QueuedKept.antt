@@ -138,10 +138,6 @@ pub bare-aborted : (ps : List Piece) → AllAborted ps → AllAborted (map bare 
 bare-aborted [] none = tt
 bare-aborted (p ∷ ps) (one, others) = (one, bare-aborted ps others)
 
-pub aborted-bare : (ps : List Piece) → AllAborted (map bare ps) → AllAborted ps
-aborted-bare [] none = tt
-aborted-bare (p ∷ ps) (one, others) = (one, aborted-bare ps others)
-
 module _ (h : ℕ) where
   queued-still : (first : ℕ) (old new : Option Stood) → new ≡ old → StaysQueued h first old [] new
   queued-still first old new same =

@@ -133,17 +133,6 @@ says-aborted ps qs ms are s =
       says = ap (λ (x : Reading). map message_of x.messages) all ∙ s.says;
     }
 
--- nor do such transfers before others
-pub says-behind : (ps qs : List Piece) (ms : List Message) → AllAborted ps → SayMessages qs ms
-    → SayMessages (ps ++ qs) ms
-says-behind ps qs ms are s =
-    let all : readings nothing (ps ++ qs) ≡ readings nothing qs =
-    readings-both ps qs nothing ∙ ap (λ (x : Reading). readings x qs) (aborted-read ps nothing are refl) in
-    record {
-      whole = ap (λ (x : Reading). x.held) all ∙ s.whole;
-      says = ap (λ (x : Reading). map message_of x.messages) all ∙ s.says;
-    }
-
 pub says-none : SayMessages [] []
 says-none = record { whole = refl; says = refl }
 

@@ -13,18 +13,21 @@ use Rattle.amqp_link_base.specs.Said.{begun, whole}
 use Rattle.amqp_link_sender.specs.Saying.{pieces_of}
 use Rattle.amqp_link_sender.proofs.SayingLemmas.{split-read}
 use Rattle.amqp_endpoint_laws.specs.Deeds.{AreDone, Deed, Does, IsDeed}
+use Rattle.amqp_endpoint_attached.specs.Linked.{Linked}
+use Rattle.amqp_endpoint_attached.specs.Links.{receiver_by, sender_by}
 use Rattle.amqp_endpoint_link_calls.specs.Calling.{DoneAt, DoneIn}
 use Rattle.amqp_endpoint_link_calls.specs.Sending.{sends}
 use Rattle.amqp_endpoint_link_calls.proofs.MessagesInside.{sends-inside}
+use Rattle.amqp_endpoint.specs.Attaching.{LinkAttached}
 use Rattle.amqp_endpoint.specs.Does.{linked}
 use Rattle.amqp_endpoint.specs.Sending.{outcome_of, tag_of}
 use Rattle.amqp_endpoint.specs.declared.linked.LinkedSessions.{LinkedSessions}
 use Rattle.amqp_endpoint_linking.specs.Linking.{Session, Stood}
-use Rattle.amqp_endpoint_model.specs.Said.{message_sent}
+use Rattle.amqp_endpoint_model.specs.Said.{attaching, message_sent}
 use Rattle.amqp_endpoint_model.specs.declared.call.Call.TheVariants as call
 use Rattle.amqp_endpoint_model.specs.declared.call.Sending.{Sending}
 use Rattle.amqp_endpoint_tables.specs.OwnLinks.{slot_at}
-use Rattle.amqp_endpoint_tables.specs.LinkState.{place_at as link_place}
+use Rattle.amqp_endpoint_tables.specs.LinkState.{held_at, place_at as link_place}
 use Rattle.amqp_endpoint_tables.specs.declared.link_place.LinkPlace.{LinkPlace}
 use Rattle.amqp_endpoint_tables.specs.declared.link_place.LinkPlace.TheVariants.{AtRest, Held}
 use Rattle.amqp_endpoint_messages.specs.Sending.{first_on, with_tag}
@@ -35,16 +38,19 @@ use Rattle.amqp_endpoint_tables.proofs.Owning.{at, same_number}
 use Rattle.amqp_endpoint_conversation.specs.Inside.{Batches}
 use Rattle.amqp_endpoint_conversation.specs.Windows.{Passing, went}
 use Rattle.amqp_endpoint_laws.specs.Passed.{PassesIn, holder, is_it, passes_in}
-use Rattle.amqp_endpoint_laws.specs.Resumed.{NeverResumed}
+use Rattle.amqp_endpoint_laws.specs.Resumed.{IsResumed, NeverResumed}
 use Rattle.amqp_endpoint_laws.specs.Queued.{Message, message_in}
+use Rattle.amqp_endpoint_laws.proofs.AttachedBehind.{AttachesInside, attaches-inside}
 use Rattle.amqp_endpoint_laws.proofs.LinksKept.{BackGoesOn, FinishedGoesOn, LeftGoesOn}
 use Rattle.amqp_endpoint_laws.proofs.LinksStay.{entered-before, held-since}
 use Rattle.amqp_endpoint_laws.proofs.PassedKept.{IsSending, deed-judges}
 use Rattle.amqp_endpoint_laws.proofs.PassedPlaces.{by-steps, eq-same}
 use Rattle.amqp_endpoint_laws.proofs.PassedSteps.{goes-did}
+use Rattle.amqp_endpoint_laws.proofs.Placing.{IsPlaced, held-place, is-again, is-new, link-entered}
 use Rattle.amqp_endpoint_laws.proofs.QueuedKept.{Queued, QueuedAt, SaysAt, StaysQueued, more-queued, queues-keep}
 use Rattle.amqp_endpoint_laws.proofs.QueuedOrder.{pieces_by}
-use Rattle.amqp_endpoint_laws.proofs.QueuedSaid.{bare, bare-one, bare_said, says-more}
+use Rattle.amqp_endpoint_laws.proofs.QueuedPlaced.{attached-beside, attached-did}
+use Rattle.amqp_endpoint_laws.proofs.QueuedSaid.{bare, bare-one, bare_said, says-aborted, says-more}
 use Rattle.std.proofs.Common.{◌⊎◌, zero, suc, take}
 use Rattle.std.proofs.lemmas.List.{map-append}
 use Rattle.amqp_session_types.specs.declared.handles.Handle.{Handle}
@@ -162,7 +168,7 @@ module _ (Agree : LinkedSessions → Type 0)
   abbrev At : LinkedSessions → Option Stood
   At s = place_at s.talk.sessions number
 
-  -- a deed that sends no message
+  -- a deed that sends no message, and by which no link attaches
   quiet-deed : (deed : Deed) (old new : LinkedSessions) → (IsSending deed → ⊥) → IsDeed linked old deed new
       → (ms : List Message) (qs : List Passing) → Says ms (At old) qs
       → Says (ms ++ []) (At new) (qs ++ passes_in number old deed)
@@ -336,7 +342,12 @@ module _ (Agree : LinkedSessions → Type 0)
   given-said deed old new ms qs s =
       record {
         more = message_in link deed;
-        is = record { count = 0; are = sym (append-nil (message_in link deed)) };
+        is = record {
+          ons = [];
+          go_on = inl refl;
+          count = 0;
+          are = sym (append-nil (message_in link deed));
+        };
         says = s;
       }
 
@@ -611,6 +622,8 @@ module _ (Agree : LinkedSessions → Type 0)
       record {
         more = map message_on (take said.count (on_named link old f.channel flow flow.handle));
         is = record {
+          ons = on_by link old f.channel f.body;
+          go_on = inr refl;
           count = said.count;
           are =
               ap (λ (it : FrameBody). map message_on (take said.count (on_by link old f.channel it))) (sym is);
@@ -627,18 +640,140 @@ module _ (Agree : LinkedSessions → Type 0)
       given-said (Takes limit f frames events) old new ms qs
       (quiet-deed (Takes limit f frames events) old new (λ flows. subst IsFlow is flows) d ms qs s)
 
-  one-deed : (deed : Deed) (old new : LinkedSessions) → Agree old
-      → link_place old.links link ≡ Some (Held number handle) → IsDeed linked old deed new → (ms : List Message)
+  -- another link attaches, and by its own handle alone anything goes on
+  module _ (limit n : ℕ) (it : End) (other : ℕ) (events : List Event) (frames : List SessionFrame)
+      (old new : LinkedSessions)
+      (a : IsPlaced old.talk old.links limit n it other events frames new.talk new.links) (agrees : Agree new)
+      (held : link_place new.links link ≡ Some (Held number handle)) (apart : link ≢ other)
+    where
+      abbrev its_before : Linked
+      its_before = a.attaches.attaches.before.value
+
+      abbrev its_after : Linked
+      its_after = a.attaches.attaches.after.value
+
+      goes-inside : AttachesInside its_before its_after limit it a.placed a.attaches.frames
+      goes-inside = attaches-inside old.talk new.talk limit n it a.placed a.attaches.frames a.attaches.attaches
+
+      its-handle : n ≡ number → (a.placed.handle.0 == handle.0) ≡ false
+      its-handle here =
+          elim (eqb_tells a.placed.handle.0 handle.0) [
+            | inl same ↦
+                let there : link_place new.links other ≡ Some (Held number handle) =
+                held-place (link_place new.links other) n a.placed.handle (ap (held_at new.links) a.numbered ∙ a.held)
+                ∙ ap (λ (x : ℕ). Some (Held x a.placed.handle)) here
+                ∙ ap (λ (x : ℕ). Some (Held number (record { 0 = x }))) same.1 in
+                absurd (apart (sym (agree-apart new agrees other link number handle there held)))
+            | inr differ ↦ differ.0
+          ]
+
+      abbrev gone_by : List Piece
+      gone_by = map bare (pieces_by handle.0 goes-inside.accepted)
+
+      goes-queued : (stood : Stood) → live_of (Some stood) ≡ Some a.attaches.attaches.before → (w : List Piece)
+          (qs : List Passing) → QueuedAt handle.0 w (Some stood) qs
+          → QueuedAt handle.0 (w ++ gone_by) (Some (with_live stood a.attaches.attaches.after)) (qs ++ went frames)
+      goes-queued (Live channel s) is w qs q =
+          more-queued handle.0 goes-inside.accepted w its_before.session its_after.session qs (went frames)
+          (attached-did its_before its_after limit it a.placed a.attaches.frames goes-inside frames a.attaches.queued)
+          (subst (λ (x : Session). Queued handle.0 w x.value.session qs) (same_Some s a.attaches.attaches.before is) q)
+      goes-queued (Asked channel s) is w qs q = absurd (none-some a.attaches.attaches.before is)
+      goes-queued (Ending channel own_end) is w qs q = absurd (none-some a.attaches.attaches.before is)
+      goes-queued (Over peer_end complete) is w qs q = absurd (none-some a.attaches.attaches.before is)
+
+      attaches-here : n ≡ number → (ms : List Message) (qs : List Passing) → Says ms (At old) qs
+          → Says ms (At new) (qs ++ went frames)
+      attaches-here here ms qs s =
+          let i = a.attaches.attaches in
+          let (stood, was, lives, becomes) =
+          (at n old.talk.sessions (ChangesLive n i.before i.after) new.talk.sessions i.stepped).about (eq-same n) in
+          record {
+            accepted = s.accepted ++ gone_by;
+            queued =
+                subst (λ (o : Option Stood). QueuedAt handle.0 (s.accepted ++ gone_by) o (qs ++ went frames))
+                (sym (ap (λ (k : ℕ). place_at new.talk.sessions k) (sym here) ∙ becomes))
+                (goes-queued stood lives s.accepted qs
+                (subst (λ (o : Option Stood). QueuedAt handle.0 s.accepted o qs)
+                (ap (λ (k : ℕ). place_at old.talk.sessions k) (sym here) ∙ was) s.queued));
+            says =
+                says-aborted s.accepted gone_by ms
+                (attached-beside its_before its_after limit it a.placed a.attaches.frames goes-inside handle.0
+                (its-handle here))
+                s.says;
+          }
+
+      attaches-there : (number == n) ≡ false → (ms : List Message) (qs : List Passing) → Says ms (At old) qs
+          → Says ms (At new) qs
+      attaches-there away ms qs s =
+          let i = a.attaches.attaches in
+          let same : At new ≡ At old =
+          (at number old.talk.sessions (ChangesLive n i.before i.after) new.talk.sessions i.stepped).other away in
+          subst (λ (o : Option Stood). Says ms o qs) (sym same) s
+
+      attaches-by : (b : Bool) → (number == n) ≡ b → (ms : List Message) (qs : List Passing) → Says ms (At old) qs
+          → Says ms (At new) (qs ++ (if b then went frames else []))
+      attaches-by true here ms qs s = attaches-here (sym (same_number number n here)) ms qs s
+      attaches-by false away ms qs s =
+          subst (λ (rs : List Passing). Says ms (At new) rs) (sym (append-nil qs)) (attaches-there away ms qs s)
+
+      other-attaches : (ms : List Message) (qs : List Passing) → Says ms (At old) qs
+          → Says (ms ++ []) (At new) (qs ++ (if number == n then went frames else []))
+      other-attaches ms qs s =
+          subst (λ (x : List Message). Says x (At new) (qs ++ (if number == n then went frames else [])))
+          (sym (append-nil ms)) (attaches-by (number == n) refl ms qs s)
+
+  -- one that is new is another
+  new-apart : (limit n : ℕ) (it : End) (other : ℕ) (events : List Event) (frames : List SessionFrame)
+      (old new : LinkedSessions) → slot_at old.links link ≢ None
+      → LinkAttached old.talk old.links limit n it other events frames new.talk new.links → link ≢ other
+  new-apart limit n it other events frames old new entered a same =
+      entered
+      (ap (λ (k : ℕ). slot_at old.links k) same ∙ (link-entered old new limit n it other events frames a).0)
+
+  one-deed : (deed : Deed) (old new : LinkedSessions) → (IsResumed link deed → ⊥) → slot_at old.links link ≢ None
+      → Agree old → link_place old.links link ≡ Some (Held number handle)
+      → link_place new.links link ≡ Some (Held number handle) → IsDeed linked old deed new → (ms : List Message)
       (qs : List Passing) → Says ms (At old) qs → SaidIn deed old new ms qs
-  one-deed (Does limit (call.Send other message) (message_sent tag outcome) frames) old new agrees held d ms qs s =
+  one-deed (Does limit (call.AttachSender n its) (attaching other events) frames) old new never entered agrees held
+      later d ms qs s =
+      let deed = Does limit (call.AttachSender n its) (attaching other events) frames in
+      given-said deed old new ms qs
+      (other-attaches limit n (sender_by its) other events frames old new
+      (is-new old.talk new.talk old.links new.links limit n (sender_by its) other events frames d.0)
+      (agree-kept old new deed d agrees) later
+      (new-apart limit n (sender_by its) other events frames old new entered d.0) ms qs s)
+  one-deed (Does limit (call.AttachReceiver n its) (attaching other events) frames) old new never entered agrees held
+      later d ms qs s =
+      let deed = Does limit (call.AttachReceiver n its) (attaching other events) frames in
+      given-said deed old new ms qs
+      (other-attaches limit n (receiver_by its) other events frames old new
+      (is-new old.talk new.talk old.links new.links limit n (receiver_by its) other events frames d.0)
+      (agree-kept old new deed d agrees) later
+      (new-apart limit n (receiver_by its) other events frames old new entered d.0) ms qs s)
+  one-deed (Does limit (call.Resume other n) (attaching one events) frames) old new never entered agrees held later d
+      ms qs s =
+      let deed = Does limit (call.Resume other n) (attaching one events) frames in
+      given-said deed old new ms qs
+      (other-attaches limit n d.0.resumes.link other events frames old new
+      (is-again old.talk new.talk old.links new.links limit n other one events frames d.0)
+      (agree-kept old new deed d agrees) later (λ same. never (sym same)) ms qs s)
+  one-deed (Does limit (call.AttachSender n its) answer frames) old new never entered agrees held later d ms qs s =
+      absurd d.0
+  one-deed (Does limit (call.AttachReceiver n its) answer frames) old new never entered agrees held later d ms qs s =
+      absurd d.0
+  one-deed (Does limit (call.Resume other n) answer frames) old new never entered agrees held later d ms qs s =
+      absurd d.0
+  one-deed (Does limit (call.Send other message) (message_sent tag outcome) frames) old new never entered agrees held
+      later d ms qs s =
       let c = (d.0).sends in
       given-said (Does limit (call.Send other message) (message_sent tag outcome) frames) old new ms qs
       (sent-at limit other message tag outcome frames old new c.settled (link_place old.links other) agrees held refl
       c.tagged c.told c.sent ms qs s)
-  one-deed (Does limit (call.Send other message) answer frames) old new agrees held d ms qs s = absurd d.0
-  one-deed (Takes limit f frames events) old new agrees held d ms qs s =
+  one-deed (Does limit (call.Send other message) answer frames) old new never entered agrees held later d ms qs s =
+      absurd d.0
+  one-deed (Takes limit f frames events) old new never entered agrees held later d ms qs s =
       frame-said limit f f.body refl frames events old new agrees held d ms qs s
-  one-deed deed old new agrees held d ms qs s =
+  one-deed deed old new never entered agrees held later d ms qs s =
       given-said deed old new ms qs (quiet-deed deed old new (λ sends. sends) d ms qs s)
 
   pub record SaidBy (deeds : List Deed) (old new : LinkedSessions) (later : List Passing) (ms : List Message)
@@ -667,7 +802,10 @@ module _ (Agree : LinkedSessions → Type 0)
       let held-old : link_place old.links link ≡ Some (Held number handle) =
       held-since link number handle back_on left_on finished_on (deed ∷ deeds) old new never
       (mid, one, done-of number deeds mid new rest others) entered held in
-      let first = one-deed deed old mid agrees held-old one ms qs s in
+      let held-mid : link_place mid.links link ≡ Some (Held number handle) =
+      held-since link number handle back_on left_on finished_on deeds mid new never.1
+      (done-of number deeds mid new rest others) entered-mid held in
+      let first = one-deed deed old mid never.0 entered agrees held-old held-mid one ms qs s in
       let all =
       since deeds mid new rest never.1 (agree-kept old mid deed one agrees) others entered-mid held (ms ++ first.more)
       (qs ++ passes_in number old deed) first.says in

@@ -1,7 +1,7 @@
 -- What is handed out of the frames that came is a beginning of what was accepted to be sent by these and more.
-use Rattle.std.proofs.Common.{◌≡◌, ◌==◌, ℕ, zero, suc, Bool, true, false, List, [], ◌∷◌, ◌++◌, Option, Some, None}
-use Rattle.std.proofs.Common.{if◌then◌else◌, ap, append_assoc, map, refl, sym, subst, take, ◌∙◌}
-use Rattle.std.specs.Prelude.{unwrap_or}
+use Rattle.std.proofs.Common.{◌≡◌, ◌==◌, ◌⊎◌, inl, inr, ℕ, zero, suc, Bool, true, false, List, [], ◌∷◌, ◌++◌, Option}
+use Rattle.std.proofs.Common.{Some, None, if◌then◌else◌, ap, append_assoc, map, refl, sym, subst, take, ◌∙◌}
+use Rattle.std.specs.Prelude.{option_map, unwrap_or}
 use Rattle.amqp_session_types.specs.declared.handles.Handle.{Handle}
 use Rattle.amqp_session_types.specs.declared.handles.OutputHandle.{OutputHandle}
 use Rattle.amqp_session_performatives.specs.declared.flow.Flow.{Flow}
@@ -15,20 +15,21 @@ use Rattle.amqp_link_receiver.specs.Reading.{says}
 use Rattle.amqp_link.specs.GoingOn.{sends_on_by}
 use Rattle.amqp_link_sender.specs.declared.sending_on.PreparedSendOn.{PreparedSendOn}
 use Rattle.amqp_endpoint.specs.declared.linked.LinkedSessions.{LinkedSessions}
+use Rattle.amqp_endpoint_attached.specs.Answering.{plain}
 use Rattle.amqp_endpoint_link_hearing.specs.Flowing.{said_of_link}
 use Rattle.amqp_endpoint_link_hearing.specs.Reached.{link_on}
 use Rattle.amqp_endpoint_linking.specs.Linking.{Link}
 use Rattle.amqp_endpoint_laws.specs.Deeds.{Deed, Does, Takes}
 use Rattle.amqp_endpoint_model.specs.Said.{Said as Answer, message_sent}
 use Rattle.amqp_endpoint_model.specs.declared.call.Call.{Call}
-use Rattle.amqp_endpoint_model.specs.declared.call.Call.TheVariants.{Send}
+use Rattle.amqp_endpoint_model.specs.declared.call.Call.TheVariants.{Resume, Send}
 use Rattle.amqp_endpoint_laws.specs.Attachments.{attachment, bodies_of}
 use Rattle.amqp_endpoint_laws.specs.Handed.{handed_as}
-use Rattle.amqp_endpoint_laws.specs.Queued.{AreSaid, Message, SayAll, message_done, message_in, message_of, message_on}
-use Rattle.amqp_endpoint_laws.specs.Queued.{on_by, on_in, on_named, on_of}
+use Rattle.amqp_endpoint_laws.specs.Queued.{AreSaid, GoesOnBy, Message, SayAll, message_done, message_in, message_of}
+use Rattle.amqp_endpoint_laws.specs.Queued.{message_on, on_by, on_named, on_of}
 use Rattle.amqp_endpoint_laws.specs.Taken.{message_handed}
 use Rattle.amqp_endpoint_laws.proofs.HandedOut.{readings-both}
-use Rattle.amqp_endpoint_laws.proofs.QueuedFlow.{AreSaidOn, IsSaidOn, by-so}
+use Rattle.amqp_endpoint_laws.proofs.QueuedFlow.{AreSaidOn, IsSaidOn, answered-so, by-so}
 use Rattle.amqp_endpoint_laws.proofs.QueuedSaid.{map-both}
 use Rattle.amqp_endpoint_laws.proofs.TakenRead.{begins-said, more-said}
 
@@ -124,9 +125,18 @@ body-so : (link : ℕ) (old : LinkedSessions) (channel : ℕ) (it : FrameBody) �
 body-so link old channel (frame_body.Flow flow) = named-so link old channel flow flow.handle
 body-so link old channel it = tt
 
-deed-so : (link : ℕ) (old : LinkedSessions) (deed : Deed) → AreSaidOn (on_in link old deed)
-deed-so link old (Takes limit f frames events) = body-so link old f.channel f.body
-deed-so link old deed = tt
+deed-so : (link : ℕ) (old : LinkedSessions) (deed : Deed) (ons : List PreparedSendOn) → GoesOnBy link old deed ons
+    → AreSaidOn ons
+deed-so link old (Takes limit f frames events) ons is =
+    subst AreSaidOn (sym is) (body-so link old f.channel f.body)
+deed-so link old (Does limit (Resume number session) answer frames) ons (same, g) =
+    subst AreSaidOn (sym g.are) (answered-so g.end g.asked.attach (option_map plain g.asked.flow))
+deed-so link old deed ons is = absurd is
+
+some-so : (link : ℕ) (old : LinkedSessions) (deed : Deed) (ons : List PreparedSendOn)
+    → (ons ≡ []) ⊎ GoesOnBy link old deed ons → AreSaidOn ons
+some-so link old deed ons (inl none) = subst AreSaidOn (sym none) tt
+some-so link old deed ons (inr goes) = deed-so link old deed ons goes
 
 -- and each that a link says
 said-full : (link : ℕ) (old : LinkedSessions) (deeds : List Deed) (new : LinkedSessions) (ms : List Message)
@@ -136,13 +146,13 @@ said-full link old (deed ∷ deeds) new ms (mid, these, rest, one, is, others, a
     subst AreFull (sym all)
     (full-both these rest
     (subst AreFull (sym is.are)
-    (full-both (message_in link deed) (map message_on (take is.count (on_in link old deed))) (in-full link deed)
-    (on-full (take is.count (on_in link old deed)) (first-on is.count (on_in link old deed) (deed-so link old deed)))))
+    (full-both (message_in link deed) (map message_on (take is.count is.ons)) (in-full link deed)
+    (on-full (take is.count is.ons) (first-on is.count is.ons (some-so link old deed is.ons is.go_on)))))
     (said-full link mid deeds new rest others))
 
 module _ (name : List ℕ) (others link : ℕ) (own : OutputHandle) (sent : List SessionFrame) (waiting : List Piece)
-    (old : LinkedSessions) (since : List Deed) (new : LinkedSessions) (came more : List FrameBody)
-    (said : SayAll link old since new (attachment name others (bodies_of sent) ++ waiting))
+    (old : LinkedSessions) (deeds : List Deed) (new : LinkedSessions) (came more : List FrameBody)
+    (said : SayAll link old deeds new (attachment name others (bodies_of sent) ++ waiting))
     (are : bodies_of sent ≡ came ++ more) where
   abbrev read : Reading
   read = readings nothing (attachment name others came)
@@ -170,5 +180,5 @@ module _ (name : List ℕ) (others link : ℕ) (own : OutputHandle) (sent : List
             ∙ ap (λ (ms : List Message). ms ++ map message_of rest)
             (sym (handed-full own read.messages
             (full-first (map message_of read.messages) (map message_of rest)
-            (subst AreFull all (said-full link old since new said.messages said.are))))),
+            (subst AreFull all (said-full link old deeds new said.messages said.are))))),
       )

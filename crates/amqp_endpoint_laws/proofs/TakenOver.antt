@@ -52,7 +52,8 @@ use Rattle.amqp_endpoint_laws.proofs.LifeDeeds.{IsOn, holds-receives, none-hande
 use Rattle.amqp_endpoint_laws.proofs.LifePlace.{IsIn, IsUnentered, came-so, known-first, stays-in, unentered-none}
 use Rattle.amqp_endpoint_laws.proofs.LinksKept.{BackGoesOn, FinishedGoesOn, HoldsOnly, LeftGoesOn, links-keep}
 use Rattle.amqp_endpoint_laws.proofs.PassedPlaces.{eq-same, none-came}
-use Rattle.amqp_endpoint_laws.proofs.QueuedAttached.{Reached, link-entered, reached-on}
+use Rattle.amqp_endpoint_laws.proofs.Placing.{link-entered}
+use Rattle.amqp_endpoint_laws.proofs.QueuedAttached.{Reached, reached-on}
 use Rattle.amqp_endpoint_laws.proofs.QueuedSince.{done-of}
 use Rattle.amqp_endpoint_laws.proofs.TakenRead.{attachment-read, came-both, come-both, named-so, none-both}
 

@@ -1,7 +1,9 @@
 -- What a link has queued: its transfers that passed in its session, and those that wait there (part 2, 2.5.6, 2.6.12).
 use Rattle.std.specs.Prelude.{◌≡◌, ◌==◌, ℕ, Bool, List, [], ◌∷◌, ◌++◌, Option, Some, None, if◌then◌else◌, is_some, map}
-use Rattle.std.specs.Prelude.{take}
+use Rattle.std.specs.Prelude.{◌⊎◌, option_map, take}
+use Rattle.std.specs.FinMap as tables
 use Rattle.amqp_session_types.specs.declared.handles.Handle.{Handle}
+use Rattle.amqp_session_types.specs.declared.handles.InputHandle.{InputHandle}
 use Rattle.amqp_session_types.specs.declared.handles.OutputHandle.{OutputHandle}
 use Rattle.amqp_session_frames.specs.declared.frame.FrameBody.{FrameBody}
 use Rattle.amqp_session_frames.specs.declared.frame.FrameBody.TheVariants as frame_body
@@ -16,14 +18,21 @@ use Rattle.amqp_session_core.specs.State.{State}
 use Rattle.amqp_link_base.specs.Readings.{Piece, nothing, readings}
 use Rattle.amqp_link_base.specs.Said.{Said}
 use Rattle.amqp_link.specs.GoingOn.{sends_on_by}
+use Rattle.amqp_link.specs.declared.end.End.{End}
 use Rattle.amqp_link_sender.specs.Saying.{pieces_of}
 use Rattle.amqp_link_sender.specs.declared.sending_on.PreparedSendOn.{PreparedSendOn}
 use Rattle.amqp_endpoint_laws.specs.Deeds.{AreDone, Deed, Does, IsDeed, Takes}
+use Rattle.amqp_endpoint_attached.specs.Answering.{plain}
+use Rattle.amqp_endpoint_link_calls.specs.Naming.{Meets}
 use Rattle.amqp_endpoint_link_hearing.specs.Flowing.{said_of_link}
 use Rattle.amqp_endpoint_link_hearing.specs.Reached.{link_on}
+use Rattle.amqp_endpoint_links.specs.declared.links.AskedLink.{AskedLink}
+use Rattle.amqp_endpoint_messages.specs.GoingOn.{on_answered}
 use Rattle.amqp_endpoint_model.specs.Said.{Said as Answer, message_sent}
 use Rattle.amqp_endpoint_model.specs.declared.call.Call.{Call}
-use Rattle.amqp_endpoint_model.specs.declared.call.Call.TheVariants.{Send}
+use Rattle.amqp_endpoint_model.specs.declared.call.Call.TheVariants.{Resume, Send}
+use Rattle.amqp_endpoint_tables.specs.LinkState.{rest_at}
+use Rattle.amqp_endpoint_tables.specs.State.{live_at}
 use Rattle.amqp_endpoint.specs.Does.{linked}
 use Rattle.amqp_endpoint.specs.declared.linked.LinkedSessions.{LinkedSessions}
 use Rattle.amqp_endpoint_linking.specs.Linking.{Link, Session}
@@ -121,15 +130,32 @@ abbrev pub on_by : ℕ → LinkedSessions → ℕ → FrameBody → List Prepare
 on_by link old channel (frame_body.Flow flow) = on_named link old channel flow flow.handle
 on_by link old channel it = []
 
--- and so does a deed
-abbrev pub on_in : ℕ → LinkedSessions → Deed → List PreparedSendOn
-on_in link old (Takes limit frame frames events) = on_by link old frame.channel frame.body
-on_in link old deed = []
+-- what a link that attaches again sends on, where it answers the one of its name for which the peer asks in the session
+-- with this number: what was kept of a Flow lets it (part 2, 2.6.3, 2.6.7)
+pub record GoesOnAgain (link session : ℕ) (old : LinkedSessions) (ons : List PreparedSendOn) : Type 0 where
+  pub end : End
+  pub rests : rest_at old.links link ≡ Some end
+  pub it : Session
+  pub live : live_at old.talk.sessions session ≡ Some it
+  pub input : InputHandle
+  pub meets : Meets it.value.asked end (Some input)
+  pub asked : AskedLink
+  pub is_asked : tables.get it.value.asked input.0 ≡ Some asked
+  pub are : ons ≡ on_answered end asked.attach (option_map plain asked.flow)
 
--- what a link says in a deed: the message that it is given, or the first so many of those that it has to send on
+-- what a deed lets the link with this number send on
+abbrev pub GoesOnBy : ℕ → LinkedSessions → Deed → List PreparedSendOn → Type 0
+GoesOnBy link old (Takes limit frame frames events) ons = ons ≡ on_by link old frame.channel frame.body
+GoesOnBy link old (Does limit (Resume number session) answer frames) ons =
+    (number ≡ link) × GoesOnAgain link session old ons
+GoesOnBy link old deed ons = ⊥
+
+-- what a link says in a deed: the message that it is given, and the first so many of those that it has to send on
 pub record SaysIn (link : ℕ) (old : LinkedSessions) (deed : Deed) (messages : List Message) : Type 0 where
+  pub ons : List PreparedSendOn
+  pub go_on : (ons ≡ []) ⊎ GoesOnBy link old deed ons
   pub count : ℕ
-  pub are : messages ≡ message_in link deed ++ map message_on (take count (on_in link old deed))
+  pub are : messages ≡ message_in link deed ++ map message_on (take count ons)
 
 -- and in one after the other
 abbrev pub AreSaid : ℕ → LinkedSessions → List Deed → LinkedSessions → List Message → Type 0
@@ -145,12 +171,16 @@ pub record SayAll (link : ℕ) (old : LinkedSessions) (deeds : List Deed) (new :
   pub are : AreSaid link old deeds new messages
   pub say : SayMessages pieces messages
 
--- by none of these deeds it had anything to send on
+-- by a deed it has nothing to send on
+abbrev pub HasNoneOn : ℕ → LinkedSessions → Deed → Type 0
+HasNoneOn link old deed = (ons : List PreparedSendOn) → GoesOnBy link old deed ons → ons ≡ []
+
+-- by none of these deeds
 abbrev pub NothingOn : (link : ℕ) (old : LinkedSessions) (deeds : List Deed) (new : LinkedSessions)
     (messages : List Message) → AreSaid link old deeds new messages → Type 0
 NothingOn link old [] new messages said = Unit {0}
 NothingOn link old (deed ∷ deeds) new messages (mid, these, rest, done, says, others, all) =
-    (on_in link old deed ≡ []) × NothingOn link mid deeds new rest others
+    HasNoneOn link old deed × NothingOn link mid deeds new rest others
 
 -- the first of these frames is an Attach with this own handle and this name (part 2, 2.6.3)
 pub record AttachesFirst (handle : OutputHandle) (name : List ℕ) (frames : List SessionFrame) : Type 0 where
@@ -161,8 +191,8 @@ pub record AttachesFirst (handle : OutputHandle) (name : List ℕ) (frames : Lis
   pub handled : attach.handle.0 ≡ handle.0
   pub named : attach.name ≡ name
 
--- among these deeds is this call by which the link attached, and what passed in its session since, by its handle, and
--- what waits there, says what the link says since then: by calls these messages
+-- among these deeds is this call by which the link attached, and what passed in its session by that and since, by its
+-- handle, and what waits there, says what the link says by that and since then: by calls these messages
 pub record SaysSince (sessions : LinkedSessions) (deeds : List Deed) (number link : ℕ) (it : Call) (answer : Answer)
     (handle : OutputHandle) (end : LinkedSessions) (session : Session) (given : List Message) : Type 0 where
   pub before : List Deed
@@ -171,10 +201,8 @@ pub record SaysSince (sessions : LinkedSessions) (deeds : List Deed) (number lin
   pub since : List Deed
   pub are : deeds ≡ before ++ Does limit it answer frames ∷ since
   pub old : LinkedSessions
-  pub new : LinkedSessions
   pub came : AreDone linked sessions before old
-  pub attached : IsDeed linked old (Does limit it answer frames) new
   pub passings : List Passing
-  pub passes : PassesIn number new since end passings
+  pub passes : PassesIn number old (Does limit it answer frames ∷ since) end passings
   pub by_calls : messages_by link since ≡ given
-  pub says : SayAll link new since end (queued handle passings session.value.session)
+  pub says : SayAll link old (Does limit it answer frames ∷ since) end (queued handle passings session.value.session)

@@ -285,23 +285,24 @@ pub fn all_that_is_handed_out()
     links_given_back_go_on();
 }
 
-/// What a link is given to send is queued in order. Its Attach is the first frame of the call by which it attaches,
-/// as a new link or again, and says its own handle and its name. The transfers with that handle among all that passes
-/// in its session from then on, and behind them those that wait there for the peer's window, say what the link says by
-/// what is done since: the messages that it accepts, and, as a Flow comes, the first so many of those that it has to
-/// send on, one after the other, each with its tag, its format, whether it goes settled, and all of its bytes, or those
-/// behind the place where its receiver stands; and no message is left half said (part 2, 2.6.12 to 2.6.14). So it is
-/// whatever else the endpoint does and hears, as long as the session holds the link and goes on, and the link doesn't
-/// attach again. Where it has nothing to send on these are the messages that it accepted; in a run, all that it is given
-/// by calls that are done behind that call.
+/// What a link is given to send is queued in order. Its Attach is the first frame of the call by which it attaches, as
+/// a new link or again, and says its own handle and its name. The transfers with that handle among all that passes in
+/// its session by that call and since then, and behind them those that wait there for the peer's window, say what the
+/// link says by that call and since then: as it attaches again by answering the peer, the first so many of those that
+/// what was kept of a Flow lets it send on; the messages that it accepts; and, as a Flow comes, the first so many of
+/// those that it has to send on; one after the other, each with its tag, its format, whether it goes settled, and all
+/// of its bytes, or those behind the place where its receiver stands; and no message is left half said (part 2, 2.6.3,
+/// 2.6.7, 2.6.12 to 2.6.14). So it is whatever else the endpoint does and hears, as long as the session holds the link
+/// and goes on, and the link doesn't attach again. Where it has nothing to send on these are the messages that it
+/// accepted; in a run, all that it is given by calls that are done behind that call.
 pub fn what_is_sent_is_queued_in_order()
-    ensures says { (sessions old new end : LinkedSessions) (settings : Settings) (before since : List Deed)
+    ensures says { (sessions old end : LinkedSessions) (settings : Settings) (before since : List Deed)
         (deed : Deed) (number link : ℕ) (passings : List Passing) (handle : OutputHandle) (session : Session) →
-        IsNew linked settings sessions → AreDone linked sessions before old → IsDeed linked old deed new →
-        Opens deed number link → PassesIn number new since end passings →
+        IsNew linked settings sessions → AreDone linked sessions before old →
+        Opens deed number link → PassesIn number old (deed ∷ since) end passings →
         place_at end.links link ≡ Some (Held number handle) → NeverResumed link since →
         live_at end.talk.sessions number ≡ Some session →
-        SayAll link new since end (queued handle passings session.value.session) }
+        SayAll link old (deed ∷ since) end (queued handle passings session.value.session) }
     ensures given { (link : ℕ) (old end : LinkedSessions) (deeds : List Deed) (messages : List Message)
         (said : AreSaid link old deeds end messages) → NothingOn link old deeds end messages said →
         messages ≡ messages_by link deeds }
@@ -339,12 +340,14 @@ pub fn attaches_are_calls()
 {}
 
 /// What a sending link is given to send is read off the frames of its session, by the link's name and a count: how
-/// often a sending end attached with this name in the session before the link did, as a new one or again. The
-/// transfers of the attachment with this name and this count, among all frames that were handed out in the session
-/// since it was new, as they come to the peer, and behind them those that wait there, say what the link says since it
-/// attached, in order, each message whole, or from where its receiver stands (part 2, 2.6.2, 2.6.3, 2.6.12 to 2.6.14).
-/// So it is whatever else the endpoint does and hears, as long as the session holds the link and goes on, and the link
-/// doesn't attach again.
+/// often a sending end attached with this name in the session before the link did, as a new one or again. The transfers
+/// of the attachment with this name and this count, among all frames that were handed out in the session since it was
+/// new, as they come to the peer, and behind them those that wait there, say what the link says by the call by which it
+/// attaches and since then: as it attaches again by answering the peer, the first so many of those that what was kept
+/// of a Flow lets it send on; the messages that it accepts; and, as a Flow comes, the first so many of those that it
+/// has to send on; in order, each message whole, or from where its receiver stands (part 2, 2.6.2, 2.6.3, 2.6.7, 2.6.12
+/// to 2.6.14). So it is whatever else the endpoint does and hears, as long as the session holds the link and goes on,
+/// and the link doesn't attach again.
 pub fn what_an_attachment_sends_is_what_it_accepted()
     ensures { (sessions old new end : LinkedSessions) (settings : Settings) (before since : List Deed)
         (deed : Deed) (number link : ℕ) (name : List ℕ) (first passings : List Passing) (handle : OutputHandle)
@@ -354,7 +357,7 @@ pub fn what_an_attachment_sends_is_what_it_accepted()
         NeverResumed link since → live_at end.talk.sessions number ≡ Some session →
         let read = attachment name (uses name (bodies_of (sent_in first)))
         (bodies_of (sent_in first ++ gone_in deed ++ sent_in passings)) in
-        SayAll link new since end (read ++ pieces_waiting handle.0 session.value.session) }
+        SayAll link old (deed ∷ since) end (read ++ pieces_waiting handle.0 session.value.session) }
 {
     links_given_back_go_on();
     no_two_links_share_a_handle();
@@ -400,13 +403,15 @@ pub fn a_beginning_is_read_as_a_beginning()
 
 /// What is handed out is a beginning of what was accepted, or sent on, message for message, with tag, format and bytes,
 /// and settled as it was sent. Of one end is told: the transfers of its attachment with a name and a count, among the
-/// frames that it handed out in a session, and behind them those that wait, say what its link says. Of the other: its
+/// frames that it handed out in a session, and behind them those that wait, say what its link says by these deeds, as
+/// by the call by which it attaches, where it may send messages on already, and by those since then. Of the other: its
 /// link hands out what the transfers of the attachment with that name and that count say, among the frames that came
-/// there in the session. And what came are the first of what was handed out (part 2, 2.6.12, 2.6.14).
+/// there in the session. And what came are the first of what was handed out (part 2, 2.6.3, 2.6.12, 2.6.14).
 pub fn what_is_handed_out_begins_what_was_accepted()
     ensures { (name : List ℕ) (others link : ℕ) (own : OutputHandle) (sent : List SessionFrame)
-        (waiting : List Piece) (old new : LinkedSessions) (since : List Deed) (came more : List FrameBody)
-        (handed : List Handed) → (said : SayAll link old since new (attachment name others (bodies_of sent) ++ waiting)) →
+        (waiting : List Piece) (old new : LinkedSessions) (deeds : List Deed) (came more : List FrameBody)
+        (handed : List Handed) →
+        (said : SayAll link old deeds new (attachment name others (bodies_of sent) ++ waiting)) →
         bodies_of sent ≡ came ++ more →
         handed ≡ map (handed_as own) (readings nothing (attachment name others came)).messages →
         (rest : List Message) × (said.messages ≡ map message_handed handed ++ rest) }
@@ -451,19 +456,20 @@ pub fn what_comes_in_a_session_begins_what_went_in_one()
 
 /// Between two ends what is handed out of an attachment is a beginning of what was accepted for it, message for message
 /// and in order: in sessions that belong together, as the law before says, of an attachment with the same name and the
-/// same count at both ends. The one is that by which the link hands out that does (`HandsOut`), and the other that whose
-/// transfers, with those that still wait, say what the sending link accepted; and none of the transfers that came
-/// resumes a delivery (part 2, 2.6.12, 2.6.14).
+/// same count at both ends. The one is that by which the link hands out that does (`HandsOut`), and the other that
+/// whose transfers, with those that still wait, say what the sending link says by these deeds, as by the call by which
+/// it attaches, where it may send messages on already, and by those since then; and none of the transfers that came
+/// resumes a delivery (part 2, 2.6.3, 2.6.12, 2.6.14).
 pub fn messages_are_handed_out_in_order_between_two_ends()
     ensures { (here there channel others : ℕ) (ours theirs : List Wired) (more : List Frame) (s : LinkedSessions)
         (session link : ℕ) (own : OutputHandle) (name : List ℕ) (handed : List Handed) (waiting : List Piece)
-        (old new : LinkedSessions) (since : List Deed) → BeginsOn here channel others ours →
+        (old new : LinkedSessions) (deeds : List Deed) → BeginsOn here channel others ours →
         BegunOn there channel others theirs →
         map frame_of (goings ours) ≡ comings theirs ++ more →
         let sent = bodies_of (sent_in (passing_in here nothing_read ours)) in
         let came = came_in (passing_in there nothing_read theirs) in
         (out : HandsOut s session own name came handed) →
-        (said : SayAll link old since new (attachment name (uses name out.earlier) sent ++ waiting)) →
+        (said : SayAll link old deeds new (attachment name (uses name out.earlier) sent ++ waiting)) →
         NoneResumes (attachment name (uses name out.earlier) came) →
         (rest : List Message) × (said.messages ≡ map message_handed handed ++ rest) }
 {}

@@ -1,30 +1,39 @@
 -- What was made ready for a link that answers one of the peer's serves once it answers.
-use Rattle.std.proofs.Common.{◌≡◌, ◌+◌, ◌≤◌, ℕ, List, ◌++◌, Some, Option, refl, sym, ap, subst, ◌∙◌}
+use Rattle.std.proofs.Common.{◌≡◌, ◌+◌, ◌<◌, ◌≤◌, ◌^◌, ℕ, true, List, ◌++◌, Some, None, Option, Ok, refl, sym, ap, subst, ◌∙◌}
 use Rattle.std.proofs.Common.{arith}
 use Rattle.std.proofs.Common.{length}
-use Rattle.std.specs.Prelude.{IsSome, max, min, option_map}
+use Rattle.std.specs.Prelude.{IsSome, Result, max, min, option_map}
+use Rattle.std.specs.Vec.{vec_capacity, vec_len}
+use Rattle.std.specs.FinMap as map
+use Rattle.std.proofs.lemmas.Option.{same_Some}
 use Rattle.amqp_session_types.specs.declared.handles.InputHandle.{InputHandle}
 use Rattle.amqp_session_types.specs.declared.handles.OutputHandle.{OutputHandle}
 use Rattle.amqp_session_types.specs.declared.error.Error.{Error}
+use Rattle.amqp_session_performatives.specs.declared.link_flow.LinkFlow.{LinkFlow}
 use Rattle.amqp_session_performatives.specs.declared.session_frame.SessionFrame.{SessionFrame}
 use Rattle.amqp_session_outgoing.specs.Queues.{frames_in, room_behind}
 use Rattle.amqp_session_outgoing.specs.State as sending
+use Rattle.amqp_session_core.specs.Steps.{Allocates, Step}
 use Rattle.amqp_session_core.specs.declared.batch.BehindFrame.{BehindFrame}
 use Rattle.amqp_session_core.specs.declared.batch.TransferFrame.{TransferFrame}
 use Rattle.amqp_link_unsettled.specs.declared.exchanging.Abort.{Abort}
 use Rattle.amqp_link_sender.specs.declared.attaching.Attaching.{Attaching}
-use Rattle.amqp_link.specs.GoingOn.{aborts_of}
-use Rattle.amqp_link.specs.Preparing.{left_by}
+use Rattle.amqp_link_sender.specs.declared.sending_on.PreparedSendOn.{PreparedSendOn}
+use Rattle.amqp_link_types.specs.declared.link_error.LinkError.{LinkError}
+use Rattle.amqp_link.specs.Ends.{state_of}
+use Rattle.amqp_link.specs.GoingOn.{HasCreditFor, aborts_of}
+use Rattle.amqp_link.specs.Preparing.{attach_planned, left_by}
 use Rattle.amqp_link.specs.declared.end.End.{End}
 use Rattle.amqp_link.specs.declared.preparing.PreparedAttach.{PreparedAttach}
 use Rattle.amqp_link.specs.declared.preparing.PreparedAttach.TheVariants as plan
+use Rattle.amqp_endpoint_links.specs.declared.links.AskedLink.{AskedLink}
 use Rattle.amqp_endpoint_links.specs.declared.numbered.Numbered.{Numbered}
 use Rattle.amqp_endpoint_model.specs.State.{error_of}
 use Rattle.amqp_endpoint_model.specs.Step.{not_allowed}
 use Rattle.amqp_endpoint_model.specs.declared.event.Event.{Event}
-use Rattle.amqp_endpoint_attached.specs.Answering.{Answers, IsPrepared, IsTakenSo, RefusesAnswer, left_to_do}
+use Rattle.amqp_endpoint_attached.specs.Answering.{Answers, IsPrepared, IsTakenSo, RefusesAnswer, left_to_do, plain}
 use Rattle.amqp_endpoint_attached.specs.Linked.{Linked, LinksIn, end_at, gives}
-use Rattle.amqp_endpoint_attached.specs.Links.{offered, with_number}
+use Rattle.amqp_endpoint_attached.specs.Links.{is_at_rest, offered, with_number}
 use Rattle.amqp_endpoint_attached.specs.Refusals.{RefusesHandle}
 use Rattle.amqp_endpoint_attached.specs.declared.answering.Answered.{Answered}
 use Rattle.amqp_endpoint_attached.specs.declared.exchanging.PreparedAnswer.{PreparedAnswer}
@@ -33,13 +42,22 @@ use Rattle.amqp_endpoint_attached.specs.declared.refusal.AttachRefusal.TheVarian
 use Rattle.amqp_endpoint_attached.proofs.Owned.{given_by}
 use Rattle.amqp_endpoint_attached.proofs.Refusing.{none_left}
 use Rattle.amqp_endpoint_messages.specs.All.{open_count}
-use Rattle.amqp_endpoint_messages.specs.GivingUp.{AttachedAt, DoesAttached, attached_told}
-use Rattle.amqp_endpoint_messages.specs.MadeReady.{HasRoomToSend, IsMadeReady, MadeRoom}
+use Rattle.amqp_endpoint_messages.specs.GivingUp.{attached_told}
+use Rattle.amqp_endpoint_messages.specs.GoingOn.{AreOnReady, AreTagged, AttachedAt, DoesAttached, HasCreditThen}
+use Rattle.amqp_endpoint_messages.specs.GoingOn.{HasRoomToSend, IsReadyWith, count_on, flowed_by}
+use Rattle.amqp_endpoint_messages.specs.GoingOn.{on_answered, on_planned}
+use Rattle.amqp_endpoint_messages.specs.MadeReady.{HasRoomToTell, IsClosing, MadeRoom}
+use Rattle.amqp_endpoint_messages.specs.declared.going_on.AttachReady.{AttachReady}
+use Rattle.amqp_endpoint_messages.specs.declared.going_on.OnReady.{OnReady}
+use Rattle.amqp_endpoint_messages.proofs.KeptTaken.{behind-still}
+use Rattle.amqp_endpoint_messages.proofs.Planned.{all-bare}
 use Rattle.amqp_endpoint_messages.specs.declared.giving_up.Closing.{Closing}
-use Rattle.amqp_endpoint_link_calls.specs.Answering.{IsAnswerReady}
+use Rattle.amqp_endpoint_link_calls.specs.Answering.{HasRoomBehind, IsAnswerReady}
 use Rattle.amqp_endpoint_link_calls.specs.Attaching.{AnswersAsked}
 use Rattle.amqp_endpoint_link_calls.specs.declared.placed.Placed.{Placed}
 use Rattle.amqp_endpoint_link_calls.specs.declared.placing.AnswerReady.{AnswerReady}
+use Rattle.amqp_endpoint_link_calls.specs.declared.placing.Behind.{Behind}
+use Rattle.amqp_endpoint_link_calls.proofs.CreditAnswered.{credit-answered}
 
 -- a session but for its room for transfers
 abbrev roomy : Linked → ℕ → Linked
@@ -114,6 +132,46 @@ aborts-left (plan.Receiver p) = refl
 same-handle : (a b : OutputHandle) → a.0 ≡ b.0 → a ≡ b
 same-handle a b is = ap (λ (n : ℕ). let h : OutputHandle = record { 0 = n } in h) is
 
+-- all that a link goes by is ready
+pub answer-ready : (limit : ℕ) (before ready : Linked) (link : End) (input : InputHandle) (session : ℕ)
+    (prepared : PreparedAnswer) (handle : OutputHandle) (closing : Closing) (attach : AttachReady) (behind : Behind)
+    (len capacity : ℕ) → IsPrepared limit before link input prepared → handle ≡ offered before.session
+    → handle.0 < 2 ^ 32 → IsClosing before session handle (open_count (Some link)) closing → MadeRoom before ready
+    → IsReadyWith limit (aborts_of prepared.taken) (on_planned link (Ok prepared.taken) prepared.kept) closing attach
+    → AreTagged attach.on → HasRoomBehind attach ready behind len capacity
+    → IsAnswerReady limit before ready link input session (record { prepared = prepared; behind = behind }) len
+    capacity
+answer-ready limit before ready link input session prepared handle closing attach behind len capacity is offers short
+    closes made with tagged room =
+    let aborts : List Abort = aborts_of prepared.taken in
+    let ons : List PreparedSendOn = on_planned link (Ok prepared.taken) prepared.kept in
+    let so : IsReadyWith limit aborts ons closing behind.ready =
+    subst (λ (a : AttachReady). IsReadyWith limit aborts ons closing a) (sym room.is) with in
+    record {
+      prepared = is;
+      handle = handle;
+      offers = offers;
+      short = short;
+      closing = closing;
+      closes = closes;
+      room = made;
+      behind =
+          record {
+            ready = so;
+            sends = subst (λ (a : AttachReady). HasRoomToSend a ready len capacity) (sym room.is) room.sends;
+            tells =
+                subst
+                (λ (a : AttachReady).
+                HasRoomToTell a.closing.count (vec_len behind.events + 1) (vec_capacity behind.events))
+                (sym room.is) room.tells;
+            none = room.none;
+            bare =
+                all-bare limit closing.handle aborts behind.ready.giving.batches.items behind.ready.giving.all_fit
+                so.giving;
+            tagged = subst (λ (a : AttachReady). AreTagged a.on) (sym room.is) tagged;
+          };
+    }
+
 -- the link answered under the handle for which all was made ready
 module _ (limit : ℕ) (before ready mid : Linked) (link : End) (input : InputHandle) (session number : ℕ)
     (made : AnswerReady) (answered : Answered) (out out_mid : List SessionFrame) (len capacity : ℕ)
@@ -145,13 +203,15 @@ module _ (limit : ℕ) (before ready mid : Linked) (link : End) (input : InputHa
   held = ap (λ (c : Closing). c.session) closing-is ∙ ap (λ (c : Closing). c.session) (is.closes).is
 
   -- so the link is there
-  pub there : IsSome (end_at mid own.handle)
-  there =
-      subst (λ (h : OutputHandle). IsSome (end_at mid h)) (sym own-is)
-      (subst (λ (o : Option (Numbered End)). IsSome (option_map (λ (n : Numbered End). n.link) o))
-      (sym (given_by gives ready.session mid.session (answered.handle).0 (with_number number answers.becomes) input.0
+  end-there : end_at mid own.handle ≡ Some answers.becomes
+  end-there =
+      subst (λ (h : OutputHandle). end_at mid h ≡ Some answers.becomes) (sym own-is)
+      (ap (λ (o : Option (Numbered End)). option_map (λ (n : Numbered End). n.link) o)
+      (given_by gives ready.session mid.session (answered.handle).0 (with_number number answers.becomes) input.0
       answers.allocates))
-      refl)
+
+  pub there : IsSome (end_at mid own.handle)
+  there = subst (λ (o : Option End). IsSome o) (sym end-there) refl
 
   -- and the room serves
   pub sends-still : (more most : ℕ) → more ≤ len → most ≡ capacity → HasRoomToSend made.behind.ready mid more most
@@ -159,16 +219,17 @@ module _ (limit : ℕ) (before ready mid : Linked) (link : End) (input : InputHa
       let r = (is.behind).sends in
       let o : mid.session.outgoing ≡ ready.session.outgoing =
       ap (λ (s : LinksIn). s.outgoing) (answers.allocates).5 in
-      let fits : more + (frames_in ready.session.outgoing.queues + ready.session.outgoing.room) + 1 ≤ most =
+      let fits : more + (frames_in ready.session.outgoing.queues + ready.session.outgoing.room) + 2 ≤ most =
       omega (arith, r.spare, few, same) in
       record {
         room =
             subst
-            (λ (s : sending.State TransferFrame BehindFrame). length made.behind.ready.giving.batches.items ≤ s.room)
+            (λ (s : sending.State TransferFrame BehindFrame).
+            length made.behind.ready.giving.batches.items + count_on made.behind.ready.on ≤ s.room)
             (sym o) r.room;
         spare =
             subst
-            (λ (s : sending.State TransferFrame BehindFrame). more + (frames_in s.queues + s.room) + 1 ≤ most)
+            (λ (s : sending.State TransferFrame BehindFrame). more + (frames_in s.queues + s.room) + 2 ≤ most)
             (sym o) fits;
         place =
             record {
@@ -178,31 +239,92 @@ module _ (limit : ℕ) (before ready mid : Linked) (link : End) (input : InputHa
                   (λ (s : sending.State TransferFrame BehindFrame). room_behind own.handle.0 1 s.queues ≤ own.place)
                   (sym o) (r.place).serves;
             };
+        behind =
+            behind-still ready mid own.handle made.behind.ready.on
+            (ap (λ (s : sending.State TransferFrame BehindFrame). s.queues) o) r.behind;
       }
+
+  -- and it has the credit for what it sends on, which is what was kept of a Flow lets go
+  same-asked : answers.asked ≡ (is.prepared).asked
+  same-asked =
+      same_Some answers.asked (is.prepared).asked
+      (sym answers.is_asked
+      ∙ ap (λ (s : Linked). map.get s.asked input.0) (made-roomy before ready is.room)
+      ∙ (is.prepared).is_asked)
+
+  same-kept : answered.kept ≡ made.prepared.kept
+  same-kept =
+      answers.kept
+      ∙ ap (λ (a : AskedLink). option_map plain a.flow) same-asked
+      ∙ sym ((is.prepared).is).kept
+
+  ons-are : on_planned link (Ok made.prepared.taken) made.prepared.kept
+      ≡ on_answered link (answers.asked).attach answered.kept
+  ons-are =
+      ap (λ (r : Result PreparedAttach LinkError). on_planned link r made.prepared.kept)
+      (sym
+      (ap (λ (a : AskedLink). attach_planned link a.attach) same-asked ∙ ((is.prepared).is).planned))
+      ∙ ap (λ (k : Option LinkFlow). on_planned link (attach_planned link (answers.asked).attach) k) (sym same-kept)
+
+  pub credit-then : is_at_rest (state_of link) ≡ true
+      → HasCreditThen answered.kept own.handle made.behind.ready.on mid
+  credit-then rest = by made.behind.ready.on ((is.behind).ready).on
+    where
+      by : (on : Option OnReady)
+          → AreOnReady limit (is.closing).handle (on_planned link (Ok made.prepared.taken) made.prepared.kept) on
+          → HasCreditThen answered.kept own.handle on mid
+      by None none = tt
+      by (Some on) ready_on =
+          record {
+            link = answers.becomes;
+            there = end-there;
+            credit =
+                subst
+                (λ (k : Option LinkFlow).
+                HasCreditFor (length on.sending.batches.items) (flowed_by k answers.becomes))
+                (sym same-kept)
+                (credit-answered limit link answers.asked answered.handle (left_to_do answered) answers.attach
+                answers.becomes rest answers.exchanges made.prepared.taken made.prepared.kept (is.closing).handle on
+                ready_on);
+          }
 
   -- it goes on by what the peer's Attach leaves to be done
   module _ (after : Linked) (placed : Placed) (out_new : List SessionFrame)
       (left : left_to_do answered ≡ left_by made.prepared.taken) (numbered : placed.link ≡ number)
       (holds : placed.session ≡ own.session) (handled : placed.handle ≡ answered.handle)
-      (does : (l : ℕ) (aborts : List Abort) → IsMadeReady l own.handle aborts made.behind.ready.giving
-      → DoesAttached l own.session own.count own.handle own.why aborts answered.kept mid out_mid
+      (does : (l : ℕ) (aborts : List Abort) (ons : List PreparedSendOn)
+      → IsReadyWith l aborts ons own made.behind.ready
+      → DoesAttached l own.session own.count own.handle own.why aborts answered.kept ons mid out_mid
       (made.behind.events.items ++ attached_told number answered.exchange) after out_new placed.events.items) where
-    to-give-up : IsMadeReady limit own.handle answered.aborts made.behind.ready.giving
-    to-give-up =
-        subst (λ (h : OutputHandle). IsMadeReady limit h answered.aborts made.behind.ready.giving)
-        (sym (ap (λ (c : Closing). c.handle) closing-is))
-        (subst (λ (l : List Abort). IsMadeReady limit (is.closing).handle l made.behind.ready.giving)
-        (sym (ap (λ (a : Attaching). a.aborts) left ∙ aborts-left made.prepared.taken)) ((is.behind).ready).giving)
+    abbrev ons : List PreparedSendOn
+    ons = on_answered link (answers.asked).attach answered.kept
 
-    goes-on : DoesAttached limit own.session own.count own.handle own.why answered.aborts answered.kept mid out_mid
+    aborts-are : aborts_of made.prepared.taken ≡ answered.aborts
+    aborts-are = sym (ap (λ (a : Attaching). a.aborts) left ∙ aborts-left made.prepared.taken)
+
+    ready-own : IsReadyWith limit answered.aborts ons own made.behind.ready
+    ready-own =
+        let r = (is.behind).ready in
+        let Ready : List Abort → List PreparedSendOn → Closing → Type 0 = λ aborts more closing.
+        IsReadyWith limit aborts more closing made.behind.ready in
+        let so : Ready (aborts_of made.prepared.taken) (on_planned link (Ok made.prepared.taken) made.prepared.kept)
+        is.closing =
+        r in
+        subst (λ (c : Closing). Ready answered.aborts ons c) (sym closing-is)
+        (subst (λ (l : List PreparedSendOn). Ready answered.aborts l is.closing) ons-are
+        (subst
+        (λ (l : List Abort). Ready l (on_planned link (Ok made.prepared.taken) made.prepared.kept) is.closing)
+        aborts-are so))
+
+    goes-on : DoesAttached limit own.session own.count own.handle own.why answered.aborts answered.kept ons mid out_mid
         (made.behind.events.items ++ attached_told number answered.exchange) after out_new placed.events.items
-    goes-on = does limit answered.aborts to-give-up
+    goes-on = does limit answered.aborts ons ready-own
 
     pub asked-answered : AnswersAsked before out limit link input placed after out_new
     asked-answered =
         let d = goes-on in
         let At : ℕ → ℕ → OutputHandle → Error → Type 0 = λ s count h says.
-        AttachedAt limit s count h says answered.aborts answered.kept d.frames d.events mid after in
+        AttachedAt limit s count h says answered.aborts answered.kept ons d.frames d.events mid after in
         let count_is : own.count ≡ open_count (Some link) =
         ap (λ (c : Closing). c.count) closing-is ∙ ap (λ (c : Closing). c.count) (is.closes).is in
         let is_why : own.why ≡ error_of not_allowed =
@@ -215,7 +337,22 @@ module _ (limit : ℕ) (before ready mid : Linked) (link : End) (input : InputHa
           mid = mid;
           out_mid = out_mid;
           answers =
-              subst (λ (n : ℕ). Answers ready out limit n link input answered mid out_mid) (sym numbered) answers;
+              record {
+                asked = answers.asked;
+                is_asked = answers.is_asked;
+                attach = answers.attach;
+                becomes = answers.becomes;
+                exchanges = answers.exchanges;
+                allocates =
+                    subst
+                    (λ (n : ℕ).
+                    Step gives ready.session
+                    (Allocates answered.handle.0 (with_number n answers.becomes) (Some input.0)) mid.session)
+                    (sym numbered) answers.allocates;
+                kept = answers.kept;
+                rest = answers.rest;
+                handed = answers.handed;
+              };
           frames = d.frames;
           behind = d.events;
           goes =

@@ -30,7 +30,9 @@ use Rattle.amqp_endpoint_attached.specs.Links.{attach_frame, with_number}
 use Rattle.amqp_endpoint_attached.specs.declared.refusal.Unattached.{Unattached}
 use Rattle.amqp_endpoint_attached.proofs.Fitting.{announced_fits, reply_plain}
 use Rattle.amqp_endpoint_messages.specs.All.{open_count}
-use Rattle.amqp_endpoint_messages.proofs.AttachDone.{Done, Stepped, attached-at, both, not-allowed-fits}
+use Rattle.amqp_endpoint_messages.specs.GoingOn.{on_answered}
+use Rattle.amqp_endpoint_messages.proofs.AttachDone.{Done, Stepped, both, not-allowed-fits}
+use Rattle.amqp_endpoint_messages.proofs.GoingDone.{attached-at}
 use Rattle.amqp_endpoint_link_calls.specs.Attaching.{AttachedBy, AttachesIn}
 use Rattle.amqp_endpoint_link_calls.specs.Places.{LinkTalk}
 use Rattle.amqp_endpoint_link_calls.specs.declared.placed.Placed.{Placed}
@@ -113,7 +115,8 @@ module _ (before after : Linked) (limit : ℕ) (link : End) (placed : Placed) (f
         let s = a.answers in
         let behind : Stepped limit a.mid a.frames after =
         attached-at limit placed.session (open_count (Some link)) placed.handle (error_of not_allowed)
-        (a.answered).aborts (a.answered).kept a.frames a.behind a.mid after
+        (a.answered).aborts (a.answered).kept (on_answered link s.asked.attach (a.answered).kept) a.frames a.behind a.mid
+        after
         (not-allowed-fits limit a.mid placed.handle short least) a.goes in
         let all : Stepped limit before a.frames after =
         both limit before a.ready after [] a.frames room (both limit a.ready a.mid after [] a.frames answering behind)

@@ -18,4 +18,5 @@ pub mod Entered
 pub mod Resumed
 pub mod Looked
 pub mod Unsent
+mod CreditAnswered
 mod AskedAnswered

@@ -12,7 +12,8 @@ use Rattle.amqp_endpoint_attached.specs.Links.{is_at_rest}
 use Rattle.amqp_endpoint_attached.specs.declared.answering.Answered.{Answered}
 use Rattle.amqp_endpoint_conversation.specs.Ending.{IsMapped}
 use Rattle.amqp_endpoint_messages.specs.All.{open_count}
-use Rattle.amqp_endpoint_messages.specs.GivingUp.{AttachedAt, attached_told}
+use Rattle.amqp_endpoint_messages.specs.GivingUp.{attached_told}
+use Rattle.amqp_endpoint_messages.specs.GoingOn.{AttachedAt, on_answered}
 use Rattle.amqp_endpoint_messages.specs.MadeReady.{MadeRoom}
 use Rattle.amqp_endpoint_model.specs.State.{error_of}
 use Rattle.amqp_endpoint_model.specs.Step.{not_allowed}
@@ -25,7 +26,8 @@ use Rattle.amqp_endpoint_link_calls.specs.Places.{LinkTalk, LinksBy}
 use Rattle.amqp_endpoint_link_calls.specs.declared.placed.Placed.{Placed}
 
 -- a link answers the one that the peer asks for with this handle (2.6.3): first room is made; it answers with its own
--- Attach; and it goes on as a link does that is attached at both ends, with what was kept of a Flow
+-- Attach; and it goes on as a link does that is attached at both ends, with what was kept of a Flow, and with the
+-- messages that this lets it send on
 pub record AnswersAsked (before : Linked) (out : List SessionFrame) (limit : ℕ) (link : End) (input : InputHandle)
     (placed : Placed) (after : Linked) (out_new : List SessionFrame) : Type 0 where
   pub ready : Linked
@@ -39,7 +41,7 @@ pub record AnswersAsked (before : Linked) (out : List SessionFrame) (limit : ℕ
   pub behind : List Event
   pub goes :
       AttachedAt limit placed.session (open_count (Some link)) placed.handle (error_of not_allowed) answered.aborts
-      answered.kept frames behind mid after
+      answered.kept (on_answered link answers.asked.attach answered.kept) frames behind mid after
   pub queued : out_new ≡ out_mid ++ frames
   pub told : placed.events.items ≡ attached_told placed.link answered.exchange ++ behind
 

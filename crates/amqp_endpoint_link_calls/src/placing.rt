@@ -1,11 +1,13 @@
 //! How a link attaches in its session (part 2, 2.6.3).
-ghost use Rattle.std.specs.Prelude.{◌≡◌, ◌<◌, ◌≤◌, ◌+◌, ◌^◌, ◌++◌, ℕ, All, List, None, Some, true, IfErr, IfOk, IsSome};
+ghost use Rattle.std.specs.Prelude.{◌≡◌, ◌<◌, ◌≤◌, ◌+◌, ◌^◌, ◌++◌, ℕ, All, List, None, Ok, Some, true, IfErr, IfOk, IsSome};
 ghost use Rattle.std.specs.Prelude.{OnErr};
 ghost use Rattle.std.specs.Prelude.{OnOk};
 ghost use Rattle.std.specs.FinMap as map;
 ghost use Rattle.std.specs.Vec.{vec_capacity, vec_len};
 ghost use Rattle.std.specs.VecDeque.{deque_capacity, deque_len};
 ghost use Rattle.amqp_link.specs.Ends.{state_of};
+ghost use Rattle.amqp_link.specs.GoingOn.{aborts_of};
+ghost use Rattle.amqp_link.specs.Preparing.{IsFor};
 ghost use Rattle.amqp_link_unsettled.specs.declared.exchanging.Abort.{Abort};
 ghost use Rattle.amqp_endpoint_attached.specs.Answering.{RefusesAnswer};
 ghost use Rattle.amqp_endpoint_attached.specs.Attaching.{RefusesAttach};
@@ -13,10 +15,11 @@ ghost use Rattle.amqp_endpoint_attached.specs.Linked.{end_at};
 ghost use Rattle.amqp_endpoint_attached.specs.Links.{is_at_rest};
 ghost use Rattle.amqp_endpoint_conversation.specs.Ending.{IsMapped};
 ghost use Rattle.amqp_endpoint_conversation.specs.Going.{Goes, Rests};
-ghost use Rattle.amqp_endpoint_messages.specs.GivingUp.{DoesAttached, IsBare, attached_told};
-ghost use Rattle.amqp_endpoint_messages.specs.MadeReady.{HasPlaceToClose, HasRoomToSend, HasRoomToTell, IsMadeReady};
-ghost use Rattle.amqp_endpoint_messages.specs.MadeReady.{MadeRoom};
-ghost use Rattle.amqp_endpoint_link_calls.specs.Answering.{IsAnswerReady, IsBehind};
+ghost use Rattle.amqp_endpoint_messages.specs.GivingUp.{IsBare, attached_told};
+ghost use Rattle.amqp_endpoint_messages.specs.GoingOn.{AreTagged, DoesAttached, HasCreditThen, HasPlaceBehind};
+ghost use Rattle.amqp_endpoint_messages.specs.GoingOn.{HasRoomToSend, IsCounted, IsReadyWith, on_planned};
+ghost use Rattle.amqp_endpoint_messages.specs.MadeReady.{HasPlaceToClose, HasRoomToTell, MadeRoom};
+ghost use Rattle.amqp_endpoint_link_calls.specs.Answering.{HasRoomBehind, IsAnswerReady};
 ghost use Rattle.amqp_endpoint_link_calls.specs.Attaching.{AttachedBy, AttachesIn, AttachesOne};
 ghost use Rattle.amqp_endpoint_link_calls.specs.Refusals.{BarsIn, RefusesIn, RefusesOne, of_refusal};
 
@@ -30,11 +33,12 @@ use amqp_endpoint_attached::{
 };
 use amqp_endpoint_fitting::frames_are_read;
 use amqp_endpoint_messages::{
-    AttachReady, Closing, go_on_attached, make_answer_ready, make_closing, make_room_to_tell,
-    open_count,
+    AttachReady, Closing, go_on_attached, make_closing, make_giving_up, make_on_ready,
+    make_room_for, make_room_to_tell, open_count,
 };
 use amqp_endpoint_model::{Attached, EndpointError, Event};
-use amqp_link::{LinkEnd, PreparedAttach};
+use amqp_link::LinkEnd;
+use amqp_link_sender::PreparedSendOn;
 use amqp_session_performatives::SessionFrame;
 use amqp_session_types::{InputHandle, SessionError};
 use std::alloc::{AllocError, Global};
@@ -231,8 +235,52 @@ fn make_answer(
     let handle = offered(&live.session)?;
     handle_is_short(handle);
     let closing = make_closing(live, alloc, coming.session, handle, open_count(link))?;
-    let behind = make_behind(live, alloc, limit, closing, &prepared.taken, out)?;
+    let ready = make_ready(live, alloc, limit, link, &prepared, closing)?;
+    let behind = make_behind(live, alloc, ready, out)?;
     Ok(AnswerReady { prepared, behind })
+}
+
+/// What this link has to do behind its Attach, by which it answers as it was made ready: the deliveries that it gives
+/// up, and the messages that what was kept of a Flow lets it send on; with what it is closed with.
+fn make_ready(
+    live: &LinkSession,
+    alloc: Global,
+    limit: u32,
+    link: &LinkEnd,
+    prepared: &PreparedAnswer,
+    closing: Closing,
+) -> Result<AttachReady, AllocError>
+    requires { IsFor link.now prepared.now.taken }
+    ensures ready { IfOk result (IsReadyWith limit (aborts_of prepared.now.taken)
+        (on_planned link.now (Ok prepared.now.taken) prepared.now.kept) closing) }
+    ensures counted { IfOk result (λ ready. IsCounted ready.on) }
+    ensures tagged { IfOk result (λ ready. AreTagged ready.on) }
+    ensures behind { IfOk result (λ ready. HasPlaceBehind live.now closing.handle ready.on) }
+{
+    let giving = make_giving_up(alloc, limit, closing.handle, prepared.taken.aborts())?;
+    let ons = ons_behind(alloc, link, prepared)?;
+    let on = make_on_ready(live, alloc, limit, closing.handle, ons)?;
+    Ok(AttachReady {
+        giving,
+        on,
+        closing,
+    })
+}
+
+/// The messages that what was kept of a Flow lets this link send on, once it answers as it was made ready. It is refused
+/// where there is no memory.
+fn ons_behind(
+    alloc: Global,
+    link: &LinkEnd,
+    prepared: &PreparedAnswer,
+) -> Result<Vec<PreparedSendOn>, AllocError>
+    requires { IsFor link.now prepared.now.taken }
+    ensures { IfOk result (λ ons. ons.items ≡ on_planned link.now (Ok prepared.now.taken) prepared.now.kept) }
+{
+    match &prepared.kept {
+        Some(flow) => link.prepare_sends_on_behind(alloc, &prepared.taken, flow),
+        None => Ok(Vec::new(alloc)),
+    }
 }
 
 /// What is left to be done behind the Attach of a link that answers an asked one, made ready before it does.
@@ -244,33 +292,31 @@ struct Behind {
     events: Vec<Event>,
 }
 
-/// What a link leaves to be done for which this is to be taken of the peer's Attach, with what it is closed with, and
-/// room for all of it, and for its own Attach before that. Of the session nothing changes but the room for transfers.
+/// Room for all that this link has to do behind its Attach, for its own Attach before that, and for all that is told.
+/// Of the session nothing changes but the room for transfers.
 fn make_behind(
     live: &mut LinkSession,
     alloc: Global,
-    limit: u32,
-    closing: Closing,
-    taken: &PreparedAttach,
+    ready: AttachReady,
     out: &mut VecDeque<SessionFrame>,
 ) -> Result<Behind, AllocError>
-    requires { HasPlaceToClose live.old closing }
-    ensures ready { IfOk result (λ behind. IsBehind limit live.new closing taken.now behind (deque_len out.new + 1)
+    requires place { HasPlaceToClose live.old ready.closing }
+    requires counted { IsCounted ready.on }
+    requires behind { HasPlaceBehind live.old ready.closing.handle ready.on }
+    ensures room { IfOk result (λ behind. HasRoomBehind ready live.new behind (deque_len out.new + 1)
         (deque_capacity out.new)) }
     ensures made { OnOk result (MadeRoom live.old live.new) }
     ensures kept { OnErr result (live.new ≡ live.old) }
     ensures out { out.new.items ≡ out.old.items }
 {
     let mut events = Vec::new(alloc);
-    make_room_to_tell(&mut events, closing.count)?;
-    match make_answer_ready(live, alloc, limit, closing, taken, out) {
-        Ok(ready) => Ok(Behind { ready, events }),
-        Err(error) => Err(error),
-    }
+    make_room_to_tell(&mut events, ready.closing.count)?;
+    make_room_for(live, &ready, out)?;
+    Ok(Behind { ready, events })
 }
 
 /// A link that answered an asked one goes on under this number: it is told that it is attached, and what its Attach
-/// leaves to be done is done, as it was made ready.
+/// and what was kept of a Flow leave to be done is done, as it was made ready.
 fn go_on(
     live: &mut LinkSession,
     alloc: Global,
@@ -283,12 +329,14 @@ fn go_on(
     requires sends { HasRoomToSend behind.ready live.old (deque_len out.old) (deque_capacity out.old) }
     requires tells { HasRoomToTell behind.ready.closing.count (vec_len behind.events + 1) (vec_capacity behind.events) }
     requires bare { All IsBare behind.ready.giving.batches.items }
+    requires credit { HasCreditThen answered.kept behind.ready.closing.handle behind.ready.on live.old }
+    requires tagged { AreTagged behind.ready.on }
     ensures placed { (result.link ≡ number) × (result.session ≡ behind.ready.closing.session)
         × (result.handle ≡ answered.handle) }
-    ensures does { (limit : ℕ) (aborts : List Abort) →
-        IsMadeReady limit behind.ready.closing.handle aborts behind.ready.giving →
+    ensures does { (limit : ℕ) (aborts : List Abort) (ons : List PreparedSendOn) →
+        IsReadyWith limit aborts ons behind.ready.closing behind.ready →
         DoesAttached limit behind.ready.closing.session behind.ready.closing.count behind.ready.closing.handle
-        behind.ready.closing.why aborts answered.kept live.old out.old.items
+        behind.ready.closing.why aborts answered.kept ons live.old out.old.items
         (behind.events.items ++ attached_told number answered.exchange) live.new out.new.items result.events.items }
 {
     let Answered {

@@ -26,13 +26,15 @@ use Rattle.amqp_endpoint_conversation.specs.Going.{Goes, Rests}
 use Rattle.amqp_endpoint_attached.specs.Detaching.{own_detach}
 use Rattle.amqp_endpoint_attached.specs.Linked.{Linked, LinksIn, end_at, end_in}
 use Rattle.amqp_endpoint_messages.specs.All.{open_count}
-use Rattle.amqp_endpoint_messages.specs.GivingUp.{AttachedAt, ClosedFor, DoesAttached, DoesClosedFor, IsBare}
-use Rattle.amqp_endpoint_messages.specs.GivingUp.{attached_told, planned_at}
-use Rattle.amqp_endpoint_messages.specs.MadeReady.{HasPlaceToClose, HasRoomToSend, IsClosing, IsMadeReady, IsReadyWith}
-use Rattle.amqp_endpoint_messages.specs.MadeReady.{MadeRoom}
-use Rattle.amqp_endpoint_messages.specs.declared.giving_up.AttachReady.{AttachReady}
+use Rattle.amqp_endpoint_messages.specs.GivingUp.{ClosedFor, DoesClosedFor, IsBare, attached_told, planned_at}
+use Rattle.amqp_endpoint_messages.specs.GoingOn.{AreOnReady, AreTagged, AttachedAt, DoesAttached, HasCreditThen}
+use Rattle.amqp_endpoint_messages.specs.GoingOn.{HasRoomToSend, IsReadyWith}
+use Rattle.amqp_endpoint_messages.specs.MadeReady.{HasPlaceToClose, IsClosing, IsMadeReady, MadeRoom}
 use Rattle.amqp_endpoint_messages.specs.declared.giving_up.Closing.{Closing}
-use Rattle.amqp_endpoint_messages.proofs.AttachDone.{Stepped, attached-at, closed-for, not-allowed-fits}
+use Rattle.amqp_endpoint_messages.specs.declared.going_on.AttachReady.{AttachReady}
+use Rattle.amqp_endpoint_messages.specs.declared.going_on.OnReady.{OnReady}
+use Rattle.amqp_endpoint_messages.proofs.AttachDone.{Stepped, closed-for, not-allowed-fits}
+use Rattle.amqp_endpoint_messages.proofs.GoingDone.{attached-at}
 use Rattle.amqp_endpoint_linking.specs.Linking.{Session, Talk}
 use Rattle.amqp_endpoint_linking.specs.Handed.{Hands, Tells}
 use Rattle.amqp_endpoint_link_hearing.specs.Attaching.{ByLink, IsAttached, LinkTakes, MakesRoom}
@@ -188,10 +190,10 @@ module _ (limit : ℕ) (old : Talk) (channel : IncomingChannel) (named : NamedLi
         }
 
     pub readied : (ready : AttachReady)
-        → IsReadyWith limit (planned_at (end_at before with.handle) it) with ready
-        → HasRoomToSend ready after len capacity → All IsBare ready.giving.batches.items
+        → IsReadyWith limit (planned_at (end_at before with.handle) it) [] with ready
+        → HasRoomToSend ready after len capacity → All IsBare ready.giving.batches.items → ready.on ≡ None
         → Readies limit Behind channel named it len capacity (Some ready)
-    readied ready is sends bare n t r l =
+    readied ready is sends bare none n t r l =
         let still : reached Behind.sessions channel.0 ≡ reached old.sessions channel.0 =
         reached-alike with.session lent (with_value lent after) old.sessions Behind.sessions (sym live, refl) channel.0
         in
@@ -220,6 +222,7 @@ module _ (limit : ℕ) (old : Talk) (channel : IncomingChannel) (named : NamedLi
               (alike with.handle) is.giving;
           sends = sends;
           bare = bare;
+          none = none;
         } in
         subst (λ (a : Session). ReadyFor limit a.value n named it len capacity (Some ready)) (sym so)
         (subst (λ (k : NamedLink). ReadyFor limit after n k it len capacity (Some ready)) (sym waits-on.waits) there)
@@ -272,6 +275,23 @@ closes-in talk len capacity ready serves =
       why = serves.why;
     }
 
+-- where no message goes on, none wants credit or a tag
+module _ (ready : AttachReady) (none : ready.on ≡ None) where
+  pub ready-alone : (limit : ℕ) (aborts : List Abort) → IsMadeReady limit ready.closing.handle aborts ready.giving
+      → IsReadyWith limit aborts [] ready.closing ready
+  ready-alone limit aborts made =
+      record {
+        closing = refl;
+        giving = made;
+        on = subst (λ (o : Option OnReady). AreOnReady limit ready.closing.handle [] o) (sym none) refl;
+      }
+
+  pub credit-alone : (s : Linked) → HasCreditThen None ready.closing.handle ready.on s
+  credit-alone s = subst (λ (o : Option OnReady). HasCreditThen None ready.closing.handle o s) (sym none) tt
+
+  pub tagged-alone : AreTagged ready.on
+  tagged-alone = subst (λ (o : Option OnReady). AreTagged o) (sym none) tt
+
 -- what is done in a session that is lent, and tells
 module _ (Does : List SessionFrame → List Event → Linked → Linked → Type 0) (old : Talk) (session : ℕ) (lent : Session)
     (live : Some lent ≡ live_at old.sessions session) (before after : Linked) (same : before ≡ lent.value)
@@ -311,7 +331,7 @@ module _ (limit session count : ℕ) (handle : OutputHandle) (aborts : List Abor
   abbrev AttachedSo : Type 0
   AttachedSo =
       Tells (λ (frames : List SessionFrame) (events : List Event).
-      GoesOn (AttachedAt limit session count handle why aborts None frames events) old session new) out told out_new
+      GoesOn (AttachedAt limit session count handle why aborts None [] frames events) old session new) out told out_new
       told_new
 
   pub attached-goes : (from : ℕ) → (t : AttachedSo) → ((s : Linked) → FitsIn s) → from ≡ length out
@@ -320,18 +340,18 @@ module _ (limit session count : ℕ) (handle : OutputHandle) (aborts : List Abor
       let before : Linked = ((t.is_so).before).value in
       let after : Linked = ((t.is_so).after).value in
       let Does : List SessionFrame → Linked → Linked → Type 0 = λ frames.
-      AttachedAt limit session count handle why aborts None frames t.events in
+      AttachedAt limit session count handle why aborts None [] frames t.events in
       let h : Hands (λ (frames : List SessionFrame). GoesOn (Does frames) old session new) out out_new =
       record { frames = t.frames; is_so = t.is_so; queued = t.queued } in
       let s : Stepped limit before t.frames after =
-      attached-at limit session count handle why aborts None t.frames t.events before after (fit before) (t.is_so).done
-      in
+      attached-at limit session count handle why aborts None [] t.frames t.events before after (fit before)
+      (t.is_so).done in
       done-goes Does old session new out out_new h limit from is reads s.done
 
   pub attached-rests : AttachedSo → Rests old new out out_new
   attached-rests t =
       let Does : List SessionFrame → Linked → Linked → Type 0 = λ frames.
-      AttachedAt limit session count handle why aborts None frames t.events in
+      AttachedAt limit session count handle why aborts None [] frames t.events in
       done-rests Does old session new out out_new
       (record { frames = t.frames; is_so = t.is_so; queued = t.queued })
 
@@ -374,13 +394,13 @@ module _ (session count : ℕ) (handle : OutputHandle) (says : Error) (is : says
     (lent : Session) (live : Some lent ≡ live_at old.sessions session) (before after : Linked)
     (same : before ≡ lent.value) (out out_new : List SessionFrame) (told told_new : List Event) where
   pub attached-on : (limit : ℕ) (aborts : List Abort)
-      → DoesAttached limit session count handle says aborts None before out told after out_new told_new
+      → DoesAttached limit session count handle says aborts None [] before out told after out_new told_new
       → AttachedSo limit session count handle aborts old (behind-talk old session lent after) out out_new told told_new
   attached-on limit aborts d =
       let Does : List SessionFrame → List Event → Linked → Linked → Type 0 = λ frames events.
-      AttachedAt limit session count handle (error_of not_allowed) aborts None frames events in
+      AttachedAt limit session count handle (error_of not_allowed) aborts None [] frames events in
       tells-on Does old session lent live before after same out out_new told told_new d.frames d.events
-      (subst (λ (w : Error). AttachedAt limit session count handle w aborts None d.frames d.events before after) is
+      (subst (λ (w : Error). AttachedAt limit session count handle w aborts None [] d.frames d.events before after) is
       d.does)
       d.queued d.are_told
 
@@ -407,7 +427,7 @@ module _ (limit count : ℕ) (old : Talk) (session : ℕ) (handle : OutputHandle
   pub link-attached : (attaching : Attaching) → Ok attaching ≡ outcome_of answer
       → mid ≡ events ++ attached_told number attaching.exchange
       → Tells (λ (frames : List SessionFrame) (told : List Event).
-      GoesOn (AttachedAt limit session count handle (error_of not_allowed) attaching.aborts None frames told) old
+      GoesOn (AttachedAt limit session count handle (error_of not_allowed) attaching.aborts None [] frames told) old
       session
       new)
       out mid out_new events_new → Takes

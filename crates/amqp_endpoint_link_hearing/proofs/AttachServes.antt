@@ -42,9 +42,11 @@ use Rattle.amqp_endpoint_conversation.specs.declared.hearing.Heard.TheVariants.{
 use Rattle.amqp_endpoint_conversation.specs.Hearing.{Answered}
 use Rattle.amqp_endpoint_attached.specs.Linked.{Linked, end_at, gives}
 use Rattle.amqp_endpoint_messages.specs.GivingUp.{given_up_by, planned_at}
-use Rattle.amqp_endpoint_messages.specs.MadeReady.{HasRoomToSend, IsMadeReady}
-use Rattle.amqp_endpoint_messages.specs.declared.giving_up.AttachReady.{AttachReady}
+use Rattle.amqp_endpoint_messages.specs.GoingOn.{HasRoomToSend, count_on}
+use Rattle.amqp_endpoint_messages.specs.MadeReady.{IsMadeReady}
 use Rattle.amqp_endpoint_messages.specs.declared.giving_up.Closing.{Closing}
+use Rattle.amqp_endpoint_messages.specs.declared.going_on.AttachReady.{AttachReady}
+use Rattle.amqp_endpoint_messages.proofs.KeptTaken.{behind-still}
 use Rattle.amqp_endpoint_model.specs.declared.event.Event.{Event}
 use Rattle.amqp_endpoint_linking.specs.Linking.{Link, Session, Talk}
 use Rattle.amqp_endpoint_link_hearing.specs.Attaching.{BecomesBy, of_receiver, of_sender, opened_in, opened_of}
@@ -133,10 +135,12 @@ place-serves : (old new : Linked) (ready : AttachReady) (len capacity : ℕ)
 place-serves old new ready len capacity same h =
     record {
       room =
-          subst (λ (o : sending.State TransferFrame BehindFrame). length ready.giving.batches.items ≤ o.room) (sym same)
-          h.room;
+          subst
+          (λ (o : sending.State TransferFrame BehindFrame).
+          length ready.giving.batches.items + count_on ready.on ≤ o.room)
+          (sym same) h.room;
       spare =
-          subst (λ (o : sending.State TransferFrame BehindFrame). len + (frames_in o.queues + o.room) + 1 ≤ capacity)
+          subst (λ (o : sending.State TransferFrame BehindFrame). len + (frames_in o.queues + o.room) + 2 ≤ capacity)
           (sym same) h.spare;
       place =
           record {
@@ -147,6 +151,9 @@ place-serves old new ready len capacity same h =
                 room_behind ready.closing.handle.0 1 o.queues ≤ ready.closing.place)
                 (sym same) (h.place).serves;
           };
+      behind =
+          behind-still old new ready.closing.handle ready.on
+          (ap (λ (o : sending.State TransferFrame BehindFrame). o.queues) same) h.behind;
     }
 
 -- a link that is to take it is there, and what was made ready serves
@@ -183,6 +190,7 @@ module _ (limit : ℕ) (old : Talk) (channel : IncomingChannel) (out : List Sess
               subst (λ (a : Session). HasRoomToSend ready a.value len capacity)
               (same_Some _ _ (sym taken-there.stands ∙ live)) sends;
           bare = ready-there.bare;
+          none = ready-there.none;
           why = ap (λ (c : Closing). c.why) (ready-there.closing).is;
         }
 

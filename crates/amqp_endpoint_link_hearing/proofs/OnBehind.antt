@@ -1,11 +1,10 @@
 -- What goes on of a link by a Flow: it stands so behind it, no more of it goes on than there is credit, and a link of
 -- which something goes on hasn't ended.
-use Rattle.std.proofs.Common.{◌≡◌, ◌⊎◌, inl, inr, ◌≤◌, ◌+◌, ◌-◌, ◌==◌, ℕ, Bool, true, false, List, [], ◌∷◌}
+use Rattle.std.proofs.Common.{◌≡◌, ◌≤◌, ◌+◌, ◌==◌, ℕ, Bool, true, false, List, [], ◌∷◌}
 use Rattle.std.proofs.Common.{Option, Some, None}
 use Rattle.std.proofs.Common.{Result, if◌then◌else◌, length, arith, refl, sym, ap, ◌∙◌}
-use Rattle.std.specs.Prelude.{◌≢◌, All, option_map}
-use Rattle.std.proofs.lemmas.Bool.Decides.{eqb_tells}
-use Rattle.std.proofs.lemmas.List.Elements.{All-cons, All-nil}
+use Rattle.std.specs.Prelude.{◌≢◌, All}
+use Rattle.std.proofs.lemmas.List.Elements.{All-nil}
 use Rattle.amqp_session_types.specs.declared.handles.Handle.{Handle}
 use Rattle.amqp_session_types.specs.declared.handles.OutputHandle.{OutputHandle}
 use Rattle.amqp_session_performatives.specs.declared.flow.Flow.{Flow}
@@ -20,12 +19,8 @@ use Rattle.amqp_link_base.specs.Flows.{sender_flowed}
 use Rattle.amqp_link_base.specs.State.{is_attached}
 use Rattle.amqp_link_base.specs.declared.state.LinkState.{LinkState}
 use Rattle.amqp_link_base.specs.declared.state.LinkState.TheVariants as state
-use Rattle.amqp_link_unsettled.specs.Messages.{MessageLists, open_at}
-use Rattle.amqp_link_unsettled.specs.declared.open.Open.{Open}
-use Rattle.amqp_link_unsettled.specs.declared.open.Waiting.{Waiting}
 use Rattle.amqp_link_sender.specs.Sending.{Sending, flowed as flowed_sender}
-use Rattle.amqp_link_sender.specs.SendsOn.{all_on, going_on, headed, prepared_on, prepared_waiting}
-use Rattle.amqp_link_sender.specs.declared.sending_on.PreparedSendOn.{PreparedSendOn}
+use Rattle.amqp_link_sender.specs.SendsOn.{all_on, going_on}
 use Rattle.amqp_link.specs.Ends.{flowed, state_of}
 use Rattle.amqp_link.specs.Gives.{flows_at}
 use Rattle.amqp_link.specs.GoingOn.{HasCreditFor, goes_on, sends_on_by}
@@ -36,6 +31,7 @@ use Rattle.amqp_link.specs.declared.standing.Standing.{Standing}
 use Rattle.amqp_link.specs.declared.standing.Standing.TheVariants.{Attached, Detaching, Apart}
 use Rattle.amqp_endpoint_messages.specs.All.{open_count}
 use Rattle.amqp_endpoint_messages.specs.SendingOn.{AreCutOn, IsOn}
+use Rattle.amqp_endpoint_messages.proofs.GoesOn.{cut-few, going-on-are, going-on-few}
 use Rattle.amqp_endpoint_link_hearing.specs.Flowing.{ended, said_of_link}
 
 -- a link that isn't attached has nothing go on, by a Flow or by none
@@ -136,19 +132,6 @@ not-ended (Sender s) number some = by s.base.local_state refl
     by state.Closed is = absurd (some (none-goes s (ap is_attached is)))
 
 -- no more go on than there is credit
-going-on-few : (m : MessageLists) (ws : List Waiting) (credit : ℕ) → length (going_on m ws credit) ≤ credit
-going-on-few m [] credit = omega arith
-going-on-few m (w ∷ ws) credit =
-    by (prepared_waiting m w) (going-on-few m ws (credit - 1)) (credit == 0) (eqb_tells credit 0)
-  where
-    by : (o : Option PreparedSendOn) → length (going_on m ws (credit - 1)) ≤ credit - 1 → (b : Bool)
-        → ((b ≡ true) × (credit ≡ 0)) ⊎ ((b ≡ false) × (credit ≢ 0))
-        → length (if b then [] else headed o (going_on m ws (credit - 1))) ≤ credit
-    by o few true is = omega arith
-    by None few false is = omega arith
-    by (Some p) few false (inl is) = let clash : false ≡ true = is.0 in absurd cc
-    by (Some p) few false (inr is) = omega (arith, few, is.1)
-
 all-on-few : (s : Sending) → length (all_on s) ≤ s.flow.link_credit
 all-on-few s = by (is_attached s.base.local_state)
   where
@@ -156,14 +139,6 @@ all-on-few s = by (is_attached s.base.local_state)
         → length (if b then going_on s.messages s.messages.waiting s.flow.link_credit else []) ≤ s.flow.link_credit
     by true = going-on-few s.messages s.messages.waiting s.flow.link_credit
     by false = omega arith
-
--- nor batches than messages
-cut-few : (limit : ℕ) (handle : OutputHandle) (ons : List PreparedSendOn) (batches : List Transfers) (all : Bool)
-    → AreCutOn limit handle ons batches all → length batches ≤ length ons
-cut-few limit handle ons [] all cut = omega arith
-cut-few limit handle [] (batch ∷ batches) all (none, _) = absurd cc
-cut-few limit handle (ready ∷ others) (batch ∷ batches) all (one, rest) =
-    let few : length batches ≤ length others = cut-few limit handle others batches all rest in omega (arith, few)
 
 -- so there is credit for each
 pub credit-for : (limit : ℕ) (handle : OutputHandle) (e : End) (batches : List Transfers) (all : Bool)
@@ -175,21 +150,6 @@ credit-for limit handle (Receiver r) [] all cut = refl
 credit-for limit handle (Receiver r) (batch ∷ batches) all (none, _) = absurd cc
 
 -- each that goes on is open, and sent anew or resumed
-waiting-on : (m : MessageLists) (w : Waiting) (o : Option Open) (rest : List PreparedSendOn) → All IsOn rest
-    → All IsOn (headed (option_map (λ (x : Open). prepared_on x w.resumption) o) rest)
-waiting-on m w None rest all = All-nil IsOn
-waiting-on m w (Some x) rest all =
-    All-cons IsOn (prepared_on x w.resumption) rest (record { message = x; resumption = w.resumption; is = refl }) all
-
-going-on-are : (m : MessageLists) (ws : List Waiting) (credit : ℕ) → All IsOn (going_on m ws credit)
-going-on-are m [] credit = All-nil IsOn
-going-on-are m (w ∷ ws) credit = by (going-on-are m ws (credit - 1)) (credit == 0)
-  where
-    by : All IsOn (going_on m ws (credit - 1)) → (b : Bool)
-        → All IsOn (if b then [] else headed (prepared_waiting m w) (going_on m ws (credit - 1)))
-    by others true = All-nil IsOn
-    by others false = waiting-on m w (open_at m w.tag) (going_on m ws (credit - 1)) others
-
 all-on-are : (s : Sending) → All IsOn (all_on s)
 all-on-are s = by (is_attached s.base.local_state)
   where

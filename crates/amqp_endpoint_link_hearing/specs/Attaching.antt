@@ -26,7 +26,8 @@ use Rattle.amqp_endpoint_tables.specs.State.{reached}
 use Rattle.amqp_endpoint_linking.specs.Linking.{Link, Links, Talk}
 use Rattle.amqp_endpoint_linking.specs.Hearing.{IsUntold}
 use Rattle.amqp_endpoint_messages.specs.All.{open_count}
-use Rattle.amqp_endpoint_messages.specs.GivingUp.{AttachedAt, ClosedFor, attached_told}
+use Rattle.amqp_endpoint_messages.specs.GivingUp.{ClosedFor, attached_told}
+use Rattle.amqp_endpoint_messages.specs.GoingOn.{AttachedAt}
 use Rattle.amqp_endpoint_messages.specs.GivingUp as giving_up
 use Rattle.amqp_endpoint_messages.specs.MadeReady.{MadeRoom}
 use Rattle.amqp_endpoint_link_hearing.specs.InSession.{GoesOn}
@@ -63,8 +64,9 @@ refused_told session link error = giving_up.refused_told session link (LinkFault
 pub record IsAttached (limit session count : ℕ) (handle : OutputHandle) (attaching : Attaching) (link : Link)
     (old : Talk) (frames : List SessionFrame) (events : List Event) (new : Talk) : Type 0 where
   pub behind : List Event
-  pub goes : GoesOn (AttachedAt limit session count handle (error_of not_allowed) attaching.aborts None frames behind)
-      old session new
+  pub goes :
+      GoesOn (AttachedAt limit session count handle (error_of not_allowed) attaching.aborts None [] frames behind) old
+      session new
   pub told : events ≡ attached_told link.number attaching.exchange ++ behind
 
 -- one that refuses it is closed

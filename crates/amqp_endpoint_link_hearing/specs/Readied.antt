@@ -13,9 +13,10 @@ use Rattle.amqp_endpoint_tables.specs.State.{live_at, reached}
 use Rattle.amqp_endpoint_attached.specs.Linked.{Linked, end_at}
 use Rattle.amqp_endpoint_messages.specs.All.{open_count}
 use Rattle.amqp_endpoint_messages.specs.GivingUp.{IsBare, planned_at}
-use Rattle.amqp_endpoint_messages.specs.MadeReady.{HasPlaceToClose, HasRoomToSend, IsClosing, IsMadeReady}
-use Rattle.amqp_endpoint_messages.specs.declared.giving_up.AttachReady.{AttachReady}
+use Rattle.amqp_endpoint_messages.specs.GoingOn.{HasRoomToSend}
+use Rattle.amqp_endpoint_messages.specs.MadeReady.{HasPlaceToClose, IsClosing, IsMadeReady}
 use Rattle.amqp_endpoint_messages.specs.declared.giving_up.Closing.{Closing}
+use Rattle.amqp_endpoint_messages.specs.declared.going_on.AttachReady.{AttachReady}
 use Rattle.amqp_endpoint_linking.specs.Linking.{Session, Talk}
 use Rattle.amqp_endpoint_link_hearing.specs.Attaching.{outcome_of}
 use Rattle.amqp_endpoint_link_hearing.specs.Naming.{link_of}
@@ -62,13 +63,14 @@ HasItsPlace talk None = Unit {0}
 HasItsPlace talk (Some closing) = HasPlaceIn talk closing
 
 -- what the Attach leaves to be done for the link with this own handle in the session with this number is made ready,
--- with room among so many frames
+-- with room among so many frames; no Flow is kept of such a link, and nothing goes on
 pub record IsReady (limit : ℕ) (s : Linked) (number : ℕ) (handle : OutputHandle) (attach : Attach) (len capacity : ℕ)
     (ready : AttachReady) : Type 0 where
   pub closing : IsClosing s number handle (open_count (end_at s handle)) ready.closing
   pub giving : IsMadeReady limit handle (planned_at (end_at s handle) attach) ready.giving
   pub sends : HasRoomToSend ready s len capacity
   pub bare : All IsBare ready.giving.batches.items
+  pub none : ready.on ≡ None
 
 -- where a link waits
 abbrev pub ReadyFor : ℕ → Linked → ℕ → NamedLink → Attach → (len capacity : ℕ) → Option AttachReady → Type 0
@@ -93,6 +95,7 @@ pub record ServesFor (talk : Talk) (number : ℕ) (own : OutputHandle) (len capa
     pub there : IsSome (link_of talk number own)
     pub sends : (s : Session) → live_at talk.sessions number ≡ Some s → HasRoomToSend ready s.value len capacity
     pub bare : All IsBare ready.giving.batches.items
+    pub none : ready.on ≡ None
     pub why : ready.closing.why ≡ error_of not_allowed
 
 abbrev pub ServesItsOwn : Talk → (len capacity : ℕ) → AttachReady → Type 0

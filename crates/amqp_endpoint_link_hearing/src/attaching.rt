@@ -1,5 +1,5 @@
 //! The peer's Attach (part 2, 2.6.3, 2.7.3).
-ghost use Rattle.std.specs.Prelude.{◌≡◌, ◌+◌, ◌<◌, ◌≤◌, ◌++◌, ℕ, IfErr, IfOk, List, None, OnErr, OnOk};
+ghost use Rattle.std.specs.Prelude.{◌≡◌, ◌+◌, ◌<◌, ◌≤◌, ◌++◌, ℕ, IfErr, IfOk, List, [], None, OnErr, OnOk};
 ghost use Rattle.std.specs.Vec.{vec_capacity, vec_len};
 ghost use Rattle.std.specs.VecDeque.{deque_capacity, deque_len};
 ghost use Rattle.amqp_link_unsettled.specs.declared.exchanging.Abort.{Abort};
@@ -9,7 +9,8 @@ ghost use Rattle.amqp_endpoint_model.specs.Relay.{IsSessionFault};
 ghost use Rattle.amqp_endpoint_model.specs.State.{error_of};
 ghost use Rattle.amqp_endpoint_model.specs.Step.{not_allowed};
 ghost use Rattle.amqp_endpoint_conversation.specs.Going.{Goes, Rests};
-ghost use Rattle.amqp_endpoint_messages.specs.GivingUp.{AttachedAt, ClosedFor, attached_told};
+ghost use Rattle.amqp_endpoint_messages.specs.GivingUp.{ClosedFor, attached_told};
+ghost use Rattle.amqp_endpoint_messages.specs.GoingOn.{AttachedAt};
 ghost use Rattle.amqp_endpoint_messages.specs.MadeReady.{HasRoomToTell, IsMadeReady};
 ghost use Rattle.amqp_endpoint_linking.specs.Handed.{Tells};
 ghost use Rattle.amqp_endpoint_link_hearing.specs.Attaching.{BecomesBy, ByLink, HearsAttach, MakesRoom, RefusesAttach};
@@ -278,7 +279,7 @@ fn go_on(
     requires tells { HasRoomToTell ready.closing.count (vec_len events.old) (vec_capacity events.old) }
     ensures does { (limit : ℕ) (aborts : List Abort) → IsMadeReady limit ready.closing.handle aborts ready.giving →
         Tells (λ frames told. GoesOn (AttachedAt limit ready.closing.session ready.closing.count ready.closing.handle
-        (error_of not_allowed) aborts None frames told) talk.old ready.closing.session talk.new)
+        (error_of not_allowed) aborts None [] frames told) talk.old ready.closing.session talk.new)
         out.old.items events.old.items out.new.items events.new.items }
     ensures goes { (limit : ℕ) (aborts : List Abort) → IsMadeReady limit ready.closing.handle aborts ready.giving →
         512 ≤ limit → Goes limit talk.old talk.new out.old.items out.new.items }

@@ -34,8 +34,7 @@ use Rattle.amqp_endpoint_attached.specs.Linked.{Linked, LinksIn, end_at, gives}
 use Rattle.amqp_endpoint_attached.specs.Links.{with_number}
 use Rattle.amqp_endpoint_attached.proofs.Fitting.{reply_plain}
 use Rattle.amqp_endpoint_messages.specs.All.{TellsFirst, TellsIn, behind_told}
-use Rattle.amqp_endpoint_messages.specs.GivingUp.{AttachedAt, ClosedFor, ClosesIf, EndsIf, GivesUp, HandsEach, batch_of}
-use Rattle.amqp_endpoint_messages.specs.GivingUp.{fitting}
+use Rattle.amqp_endpoint_messages.specs.GivingUp.{ClosedFor, ClosesIf, GivesUp, HandsEach, batch_of, fitting}
 
 abbrev pub LinkAct : Type 0
 LinkAct = AskingAct (Numbered End) AttachTold Told Detached
@@ -159,7 +158,7 @@ tells-by limit count handle (Some link) old new stepped rest =
       fields = ap (λ (s : LinksIn). s.fields) stepped.1;
     }
 
-tells : (limit count : ℕ) (handle : OutputHandle) (link : Option (Numbered End)) (old new : Linked)
+pub tells : (limit count : ℕ) (handle : OutputHandle) (link : Option (Numbered End)) (old new : Linked)
     → TellsFirst count handle link old new → Stepped limit old [] new
 tells limit count handle link old new t = tells-by limit count handle link old new t.tells t.rest
 
@@ -219,7 +218,7 @@ hands-each limit base handle (abort ∷ aborts) old new out out_new stopped fit 
           (ap (λ (s : LinksIn). record base { session = s }) same) refl;
     }
 
-gives-up : (limit : ℕ) (handle : OutputHandle) (aborts : List Abort) (old new : Linked) (stuck : Option EndpointError)
+pub gives-up : (limit : ℕ) (handle : OutputHandle) (aborts : List Abort) (old new : Linked) (stuck : Option EndpointError)
     (frames : List SessionFrame) → GivesUp limit handle aborts old [] stuck new frames → Stepped limit old frames new
 gives-up limit handle aborts old new stuck frames g =
     let h : Handing limit old old.session new.session [] frames =
@@ -309,44 +308,17 @@ reply-steps limit handle flow (Some reply) old new mid frames taken r rest =
       fields = ap (λ (s : LinksIn). s.fields) r.sent.stepped.2 ∙ ap (λ (s : LinksIn). s.fields) taken.changed.1;
     }
 
-kept-steps : (limit : ℕ) (handle : OutputHandle) (kept : Option LinkFlow) (old new : Linked)
+pub kept-steps : (limit : ℕ) (handle : OutputHandle) (kept : Option LinkFlow) (old new : Linked)
     (frames : List SessionFrame) → TakesKept handle kept old [] new frames → Stepped limit old frames new
 kept-steps limit handle None old new frames t =
     stays limit old new frames (t.rest ∙ ap (λ (s : LinksIn). record old { session = s }) t.takes.0) t.takes.1
 kept-steps limit handle (Some flow) old new frames t =
     reply-steps limit handle flow t.takes.reply old new t.takes.mid frames t.takes.takes t.takes.replies t.rest
 
-ends-if : (stuck : Option EndpointError) (limit session count : ℕ) (handle : OutputHandle) (why : Error)
-    (kept : Option LinkFlow) (frames : List SessionFrame) (events : List Event) (old new : Linked)
-    → Fits limit old handle true (Some why) → EndsIf stuck session count handle why kept frames events old new
-    → Stepped limit old frames new
-ends-if None limit session count handle why kept frames events old new fit (takes, _) =
-    kept-steps limit handle kept old new frames takes
-ends-if (Some error) limit session count handle why kept frames events old new fit c =
-    closed-for limit session error count handle why frames events old new fit c
-
 -- the own Detach fits as before
-fits-still : (limit : ℕ) (old new : Linked) (handle : OutputHandle) (error : Option Error)
+pub fits-still : (limit : ℕ) (old new : Linked) (handle : OutputHandle) (error : Option Error)
     → new.session.fields ≡ old.session.fields → Fits limit old handle true error → Fits limit new handle true error
 fits-still limit old new handle error same fit =
     subst
     (λ (s : SessionFields). Fits limit (record old { session = record old.session { fields = s } }) handle true error)
     (sym same) fit
-
-pub attached-at : (limit session count : ℕ) (handle : OutputHandle) (why : Error) (aborts : List Abort)
-    (kept : Option LinkFlow) (frames : List SessionFrame) (events : List Event) (old new : Linked)
-    → Fits limit old handle true (Some why)
-    → AttachedAt limit session count handle why aborts kept frames events old new → Stepped limit old frames new
-attached-at limit session count handle why aborts kept frames events old new fit a =
-    let first : Stepped limit old [] a.told =
-    tells limit count handle (link_at old.session handle.0) old a.told a.tells in
-    let second : Stepped limit a.told a.up a.given =
-    gives-up limit handle aborts a.told a.given a.stuck a.up a.gives_up in
-    let here : Fits limit a.given handle true (Some why) =
-    fits-still limit old a.given handle (Some why) (second.fields ∙ first.fields) fit in
-    let third : Stepped limit a.given a.down new =
-    ends-if a.stuck limit session count handle why kept a.down a.failed a.given new here a.ends in
-    let all : Stepped limit old (a.up ++ a.down) new =
-    both limit old a.told new [] (a.up ++ a.down) first
-    (both limit a.told a.given new a.up a.down second third) in
-    subst (λ (fs : List SessionFrame). Stepped limit old fs new) (sym a.frames_are) all

@@ -10,6 +10,7 @@ use Rattle.amqp_session_performatives.specs.declared.session_frame.SessionFrame.
 use Rattle.amqp_session_core.specs.Batch.{Transfers}
 use Rattle.amqp_session_core.specs.State.{link_at}
 use Rattle.amqp_link.specs.declared.end.End.{End}
+use Rattle.amqp_link_sender.specs.declared.sending_on.PreparedSendOn.{PreparedSendOn}
 use Rattle.amqp_link_unsettled.specs.declared.exchanging.Abort.{Abort}
 use Rattle.amqp_endpoint_links.specs.declared.numbered.Numbered.{Numbered}
 use Rattle.amqp_endpoint_model.specs.declared.error.EndpointError.{EndpointError}
@@ -18,9 +19,11 @@ use Rattle.amqp_endpoint_attached.specs.Detaching.{DetachGiven, is_there}
 use Rattle.amqp_endpoint_attached.specs.Kept.{Replies, TakesFlow, TakesKept}
 use Rattle.amqp_endpoint_attached.specs.Linked.{Linked, LinksIn, end_at, end_in, gives}
 use Rattle.amqp_endpoint_messages.specs.All.{AreCopies, TellsFirst, first_told}
-use Rattle.amqp_endpoint_messages.specs.GivingUp.{ClosesIf, DoesAttached, DoesClosedFor, GivesUp, HandsEach}
+use Rattle.amqp_endpoint_messages.specs.GivingUp.{ClosesIf, DoesClosedFor, GivesUp, HandsEach}
 use Rattle.amqp_endpoint_messages.specs.GivingUp.{refused_told, stuck_by}
+use Rattle.amqp_endpoint_messages.specs.GoingOn.{DoesAttached}
 use Rattle.amqp_endpoint_messages.specs.MadeReady.{ArePlanned, ClosesOut}
+use Rattle.amqp_endpoint_messages.specs.SendingOn.{DoesCredited}
 use Rattle.amqp_endpoint_messages.proofs.Handed.{Behind, behind}
 
 -- without an error of the peer's no copies are needed
@@ -168,15 +171,17 @@ module _ (limit session count : ℕ) (handle : OutputHandle) (why : Error) (abor
         fit = planned.fit;
       }
 
-  -- all deliveries are given up, and what was kept of a Flow is taken
-  pub attached : stuck ≡ None → (new : Linked) (out_new : List SessionFrame)
-      → TakesKept handle kept given out_up new out_new
-      → DoesAttached limit session count handle why aborts kept old out events new out_new events_told
-  attached none new out_new flows =
-      let f : OwnKept handle kept given out_up new out_new = own-kept handle kept given new out_up out_new flows in
+  -- all deliveries are given up, what was kept of a Flow is taken, and these messages are sent on
+  pub attached : stuck ≡ None → (ons : List PreparedSendOn) (mid new : Linked) (out_mid out_new : List SessionFrame)
+      (events_new : List Event) → TakesKept handle kept given out_up mid out_mid
+      → DoesCredited limit session count handle why ons mid out_mid events_told new out_new events_new
+      → DoesAttached limit session count handle why aborts kept ons old out events new out_new events_new
+  attached none ons mid new out_mid out_new events_new flows on =
+      let f : OwnKept handle kept given out_up mid out_mid = own-kept handle kept given mid out_up out_mid flows in
+      let down : List SessionFrame = f.frames ++ on.frames in
       record {
-        frames = ups.up ++ f.frames;
-        events = outcomes;
+        frames = ups.up ++ down;
+        events = outcomes ++ on.events;
         does =
             record {
               told = told;
@@ -187,25 +192,38 @@ module _ (limit session count : ℕ) (handle : OutputHandle) (why : Error) (abor
               gives_up =
                   subst (λ (o : Option EndpointError). GivesUp limit handle aborts told [] o given ups.up) none
                   gives-up;
-              down = f.frames;
-              failed = [];
-              ends = (f.takes, refl);
+              down = down;
+              failed = on.events;
+              ends =
+                  record {
+                    reply = f.frames;
+                    mid = mid;
+                    takes = f.takes;
+                    on = on.frames;
+                    credited = on.does;
+                    frames_are = refl;
+                  };
               frames_are = refl;
-              events_are = sym (append-nil outcomes);
+              events_are = refl;
             };
         queued =
-            f.queued
-            ∙ ap (λ (l : List SessionFrame). l ++ f.frames) ups.queued
-            ∙ append_assoc out ups.up f.frames;
-        are_told = told_is;
+            on.queued
+            ∙ ap (λ (l : List SessionFrame). l ++ on.frames) f.queued
+            ∙ append_assoc out_up f.frames on.frames
+            ∙ ap (λ (l : List SessionFrame). l ++ down) ups.queued
+            ∙ append_assoc out ups.up down;
+        are_told =
+            on.are_told
+            ∙ ap (λ (l : List Event). l ++ on.events) told_is
+            ∙ append_assoc events outcomes on.events;
       }
 
   -- or it is closed
-  pub attached-not : (error : EndpointError) (new : Linked) (out_new : List SessionFrame) (events_new : List Event)
-      → stuck ≡ Some error
+  pub attached-not : (error : EndpointError) (ons : List PreparedSendOn) (new : Linked) (out_new : List SessionFrame)
+      (events_new : List Event) → stuck ≡ Some error
       → DoesClosedFor session error count handle why given out_up events_told new out_new events_new
-      → DoesAttached limit session count handle why aborts kept old out events new out_new events_new
-  attached-not error new out_new events_new some closed =
+      → DoesAttached limit session count handle why aborts kept ons old out events new out_new events_new
+  attached-not error ons new out_new events_new some closed =
       record {
         frames = ups.up ++ closed.frames;
         events = outcomes ++ closed.events;

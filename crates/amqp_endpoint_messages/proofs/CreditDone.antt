@@ -7,7 +7,6 @@ use Rattle.amqp_session_types.specs.declared.handles.OutputHandle.{OutputHandle}
 use Rattle.amqp_session_performatives.specs.declared.session_frame.SessionFrame.{SessionFrame}
 use Rattle.amqp_session_core.specs.Batch.{Transfers}
 use Rattle.amqp_session_core.specs.Steps.{Changes, SendsTransfers}
-use Rattle.amqp_session_core.specs.declared.fields.SessionFields.{SessionFields}
 use Rattle.amqp_link_sender.specs.declared.sending_on.PreparedSendOn.{PreparedSendOn}
 use Rattle.amqp_link.specs.GoingOn.{sent_on}
 use Rattle.amqp_endpoint_fitting.specs.Fits.{UnitFits}
@@ -16,7 +15,7 @@ use Rattle.amqp_endpoint_model.specs.declared.error.EndpointError.{EndpointError
 use Rattle.amqp_endpoint_model.specs.declared.event.Event.{Event}
 use Rattle.amqp_endpoint_attached.specs.Linked.{Linked, LinksIn}
 use Rattle.amqp_endpoint_messages.specs.SendingOn.{AreCutOn, AreSentOn, ClosesWhere, CreditedAt, IsSentOn, SendsOn}
-use Rattle.amqp_endpoint_messages.proofs.AttachDone.{Fits, Stepped, both, closed-for, unchanged}
+use Rattle.amqp_endpoint_messages.proofs.AttachDone.{Fits, Stepped, both, closed-for, fits-still, unchanged}
 
 nothing-done : (limit : ℕ) (old new : Linked) (frames : List SessionFrame) → new ≡ old → frames ≡ []
     → Stepped limit old frames new
@@ -117,21 +116,13 @@ closes-where None limit session count handle why frames events old new fit (none
 closes-where (Some error) limit session count handle why frames events old new fit c =
     closed-for limit session error count handle why frames events old new fit c
 
--- the own Detach fits as before
-fits-on : (limit : ℕ) (old new : Linked) (handle : OutputHandle) (error : Option Error)
-    → new.session.fields ≡ old.session.fields → Fits limit old handle true error → Fits limit new handle true error
-fits-on limit old new handle error same fit =
-    subst
-    (λ (s : SessionFields). Fits limit (record old { session = record old.session { fields = s } }) handle true error)
-    (sym same) fit
-
 pub credited-at : (limit session count : ℕ) (handle : OutputHandle) (why : Error) (ons : List PreparedSendOn)
     (frames : List SessionFrame) (events : List Event) (old new : Linked) → Fits limit old handle true (Some why)
     → CreditedAt limit session count handle why ons frames events old new → Stepped limit old frames new
 credited-at limit session count handle why ons frames events old new fit c =
     let first : Stepped limit old c.on c.gone = sends-on limit handle ons old c.gone c.stuck c.on c.sends_on in
     let here : Fits limit c.gone handle true (Some why) =
-    fits-on limit old c.gone handle (Some why) first.fields fit in
+    fits-still limit old c.gone handle (Some why) first.fields fit in
     let second : Stepped limit c.gone c.down new =
     closes-where c.stuck limit session count handle why c.down events c.gone new here c.closes in
     let all : Stepped limit old (c.on ++ c.down) new = both limit old c.gone new c.on c.down first second in

@@ -1,5 +1,5 @@
 -- What a link does with the credit of a Flow: it sends messages on, and is closed where it can't.
-use Rattle.std.proofs.Common.{◌≡◌, ℕ, Bool, List, [], ◌++◌, Option, Some, None, refl, sym, ap, subst, ◌∙◌}
+use Rattle.std.proofs.Common.{◌≡◌, ℕ, Bool, true, false, List, [], ◌++◌, Option, Some, None, refl, sym, ap, subst, ◌∙◌}
 use Rattle.std.proofs.Common.{append-nil, append_assoc}
 use Rattle.amqp_session_types.specs.declared.error.Error.{Error}
 use Rattle.amqp_session_types.specs.declared.handles.OutputHandle.{OutputHandle}
@@ -84,3 +84,34 @@ module _ (limit session count : ℕ) (handle : OutputHandle) (why : Error) (ons 
             ∙ append_assoc out ons-behind.on closed.frames;
         are_told = closed.are_told;
       }
+
+-- of no messages nothing goes on
+pub credited-none : (limit session count : ℕ) (handle : OutputHandle) (why : Error) (s : Linked)
+    (out : List SessionFrame) (events : List Event)
+    → DoesCredited limit session count handle why [] s out events s out events
+credited-none limit session count handle why s out events =
+    record {
+      frames = [];
+      events = [];
+      does =
+          record {
+            stuck = None;
+            on = [];
+            gone = s;
+            sends_on =
+                record {
+                  batches = [];
+                  all = true;
+                  cut = (refl, refl);
+                  stopped = false;
+                  sent = (refl, refl, refl);
+                  is = refl;
+                  rest = refl;
+                };
+            down = [];
+            closes = (refl, refl, refl);
+            frames_are = refl;
+          };
+      queued = sym (append-nil out);
+      are_told = sym (append-nil events);
+    }

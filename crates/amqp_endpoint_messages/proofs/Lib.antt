@@ -22,7 +22,6 @@ pub mod Handing
 pub mod Sent
 pub mod AbortsFit
 pub mod Planned
-pub mod Ready
 pub mod Handed
 pub mod Attached
 pub mod AttachDone
@@ -30,3 +29,6 @@ pub mod CutOn
 pub mod SentOn
 pub mod Credited
 pub mod CreditDone
+pub mod KeptTaken
+pub mod GoingDone
+pub mod GoesOn

@@ -7,7 +7,6 @@ use Rattle.amqp_session_types.specs.declared.error.Error.{Error}
 use Rattle.amqp_session_types.specs.declared.handles.OutputHandle.{OutputHandle}
 use Rattle.amqp_session_performatives.specs.declared.session_frame.SessionFrame.{SessionFrame}
 use Rattle.amqp_session_performatives.specs.declared.attach.Attach.{Attach}
-use Rattle.amqp_session_performatives.specs.declared.link_flow.LinkFlow.{LinkFlow}
 use Rattle.amqp_session_performatives.specs.declared.session_frame.SessionFrameBody.TheVariants as body
 use Rattle.amqp_session_performatives.specs.declared.transfer.Transfer.{Transfer}
 use Rattle.amqp_session_outgoing.specs.History.{HasFreeNumbers}
@@ -30,7 +29,6 @@ use Rattle.amqp_endpoint_model.specs.declared.event.Event.{Event}
 use Rattle.amqp_endpoint_model.specs.declared.event.Event.TheVariants as event
 use Rattle.amqp_endpoint_model.specs.State.{fits, frame_of}
 use Rattle.amqp_endpoint_attached.specs.Detaching.{DetachGiven, is_there}
-use Rattle.amqp_endpoint_attached.specs.Kept.{TakesKept}
 use Rattle.amqp_endpoint_attached.specs.Linked.{Linked, LinksIn, end_at, gives}
 use Rattle.amqp_endpoint_messages.specs.All.{TellsFirst, first_told}
 use Rattle.amqp_endpoint_messages.specs.Sending.{on_handle}
@@ -133,42 +131,7 @@ pub record ClosedFor (session : ℕ) (error : EndpointError) (count : ℕ) (hand
   pub told : events ≡ refused_told session link.number error
       ++ first_told count None (link_at mid.session handle.0)
 
--- It takes what was kept of a Flow for it, if one was, and replies to it where that wants it; or it is closed where it
--- couldn't give all deliveries up.
-abbrev pub EndsIf : Option EndpointError → (session count : ℕ) → OutputHandle → Error → Option LinkFlow
-    → List SessionFrame → List Event → Linked → Linked → Type 0
-EndsIf None session count handle why kept frames events old new =
-    TakesKept handle kept old [] new frames × (events ≡ [])
-EndsIf (Some error) session count handle why kept frames events old new =
-    ClosedFor session error count handle why frames events old new
-
--- A link that took the peer's Attach, in the session with this number: it tells the outcomes of so many of its messages
--- that end by what the peer lists, if as many do; then it gives up the deliveries that are to be given up, and is
--- closed where it can't; else it takes what was kept of a Flow.
-pub record AttachedAt (limit session count : ℕ) (handle : OutputHandle) (why : Error) (aborts : List Abort)
-    (kept : Option LinkFlow) (frames : List SessionFrame) (events : List Event) (old new : Linked) : Type 0 where
-  pub told : Linked
-  pub tells : TellsFirst count handle (link_at old.session handle.0) old told
-  pub stuck : Option EndpointError
-  pub up : List SessionFrame
-  pub given : Linked
-  pub gives_up : GivesUp limit handle aborts told [] stuck given up
-  pub down : List SessionFrame
-  pub failed : List Event
-  pub ends : EndsIf stuck session count handle why kept down failed given new
-  pub frames_are : frames ≡ up ++ down
-  pub events_are : events ≡ first_told count None (link_at old.session handle.0) ++ failed
-
 -- These frames are handed out behind others, and these events told.
-pub record DoesAttached (limit session count : ℕ) (handle : OutputHandle) (why : Error) (aborts : List Abort)
-    (kept : Option LinkFlow) (old : Linked) (out : List SessionFrame) (told : List Event) (new : Linked)
-    (out_new : List SessionFrame) (told_new : List Event) : Type 0 where
-  pub frames : List SessionFrame
-  pub events : List Event
-  pub does : AttachedAt limit session count handle why aborts kept frames events old new
-  pub queued : out_new ≡ out ++ frames
-  pub are_told : told_new ≡ told ++ events
-
 pub record DoesClosedFor (session : ℕ) (error : EndpointError) (count : ℕ) (handle : OutputHandle) (why : Error)
     (old : Linked) (out : List SessionFrame) (told : List Event) (new : Linked) (out_new : List SessionFrame)
     (told_new : List Event) : Type 0 where

@@ -11,3 +11,4 @@ pub mod Sending
 pub mod GivingUp
 pub mod MadeReady
 pub mod SendingOn
+pub mod GoingOn

@@ -1,9 +1,9 @@
 -- What is made ready for a link that waits for the peer's Attach: part 2, 2.6.3, 2.6.6, 2.6.13.
-use Rattle.std.specs.Prelude.{◌≡◌, ◌+◌, ◌++◌, ◌≤◌, ℕ, List, Bool, true, false, Option, Some, None, length, map}
+use Rattle.std.specs.Prelude.{◌≡◌, ◌+◌, ◌++◌, ◌≤◌, ℕ, List, Bool, true, false, Option, Some, None, map}
 use Rattle.amqp_session_types.specs.declared.error.Error.{Error}
 use Rattle.amqp_session_types.specs.declared.handles.OutputHandle.{OutputHandle}
 use Rattle.amqp_session_performatives.specs.declared.session_frame.SessionFrame.{SessionFrame}
-use Rattle.amqp_session_outgoing.specs.Queues.{frames_in, room_behind}
+use Rattle.amqp_session_outgoing.specs.Queues.{room_behind}
 use Rattle.amqp_session_core.specs.Batch.{Transfers}
 use Rattle.amqp_session_core.specs.Steps.{Reserves, Step}
 use Rattle.amqp_link_unsettled.specs.declared.exchanging.Abort.{Abort}
@@ -11,7 +11,6 @@ use Rattle.amqp_endpoint_model.specs.State.{error_of}
 use Rattle.amqp_endpoint_model.specs.Step.{not_allowed}
 use Rattle.amqp_endpoint_attached.specs.Linked.{Linked, LinksIn, gives}
 use Rattle.amqp_endpoint_messages.specs.GivingUp.{Closes, EachFits, abort_fits, all_fit, batch_of, fitting}
-use Rattle.amqp_endpoint_messages.specs.declared.giving_up.AttachReady.{AttachReady}
 use Rattle.amqp_endpoint_messages.specs.declared.giving_up.Closing.{Closing}
 use Rattle.amqp_endpoint_messages.specs.declared.giving_up.GivingUp.{GivingUp}
 
@@ -48,18 +47,7 @@ pub record IsClosing (s : Linked) (number : ℕ) (own : OutputHandle) (opened : 
   }
   pub place : HasPlaceToClose s closing
 
--- The deliveries that the link gives up, with what it is closed with.
-pub record IsReadyWith (limit : ℕ) (aborts : List Abort) (with : Closing) (ready : AttachReady) : Type 0 where
-  pub closing : ready.closing ≡ with
-  pub giving : IsMadeReady limit with.handle aborts ready.giving
-
--- There is room for what is handed out: in the session, among what is handed out, and for the Detach.
-pub record HasRoomToSend (ready : AttachReady) (s : Linked) (len capacity : ℕ) : Type 0 where
-  pub room : length ready.giving.batches.items ≤ s.session.outgoing.room
-  pub spare : len + (frames_in s.session.outgoing.queues + s.session.outgoing.room) + 1 ≤ capacity
-  pub place : HasPlaceToClose s ready.closing
-
--- And for what is told: the outcomes of so many messages, then one event more, and once more so many outcomes.
+-- There is room for what is told: the outcomes of so many messages, then one event more, and once more so many outcomes.
 abbrev pub HasRoomToTell : ℕ → ℕ → ℕ → Type 0
 HasRoomToTell count len capacity = len + (count + (count + 1)) ≤ capacity
 

@@ -1,6 +1,6 @@
 //! What a link does once it is attached at both ends: it tells the outcomes that the peer's list decides, and gives
 //! deliveries up (part 2, 2.6.13, 2.7.5).
-ghost use Rattle.std.specs.Prelude.{◌≡◌, ◌+◌, ◌≤◌, ◌<◌, ℕ, List, [], ◌∷◌, All, IfOk, IsSome, None, OnErr, OnOk, length};
+ghost use Rattle.std.specs.Prelude.{◌≡◌, ◌+◌, ◌≤◌, ◌<◌, ℕ, [], ◌∷◌, All, IfOk, IsSome, None, OnErr, OnOk, length};
 ghost use Rattle.std.specs.Vec.{vec_capacity, vec_len};
 ghost use Rattle.std.specs.VecDeque.{deque_capacity, deque_len};
 ghost use Rattle.amqp_session_types.specs.declared.handles.OutputHandle.{OutputHandle};
@@ -12,18 +12,16 @@ ghost use Rattle.amqp_endpoint_model.specs.State.{error_of};
 ghost use Rattle.amqp_endpoint_model.specs.Step.{not_allowed as condition};
 ghost use Rattle.amqp_endpoint_attached.specs.Detaching.{is_there};
 ghost use Rattle.amqp_endpoint_attached.specs.Linked.{end_at, end_in};
-ghost use Rattle.amqp_endpoint_messages.specs.GivingUp.{DoesAttached, DoesClosedFor, HandsEach, IsBare};
+ghost use Rattle.amqp_endpoint_messages.specs.GivingUp.{DoesClosedFor, HandsEach, IsBare};
 ghost use Rattle.amqp_endpoint_messages.specs.GivingUp.{abort_on, given_up_by, planned_at, stuck_by};
 ghost use Rattle.amqp_endpoint_messages.specs.GivingUp.{transfer_fits};
-ghost use Rattle.amqp_endpoint_messages.specs.MadeReady.{ClosesOut, HasPlaceToClose, HasRoomToSend, HasRoomToTell};
-ghost use Rattle.amqp_endpoint_messages.specs.MadeReady.{IsClosing, IsMadeReady, IsPlanned, IsReadyWith, MadeRoom};
+ghost use Rattle.amqp_endpoint_messages.specs.MadeReady.{ClosesOut, HasRoomToTell, IsClosing, IsMadeReady, IsPlanned};
 ghost use Rattle.amqp_endpoint_messages.specs.MadeReady.{MadeRoomIn};
-ghost use Rattle.amqp_link.specs.GoingOn.{aborts_of};
 
 use crate::cutting::on_handle;
 use crate::ending::tell_first;
 use crate::taking::hand_over;
-use amqp_endpoint_attached::{LinkSession, detach_placed, take_kept};
+use amqp_endpoint_attached::{LinkSession, detach_placed};
 use amqp_endpoint_links::Numbered;
 use amqp_endpoint_model::{EndpointError, Event, Refused};
 use amqp_link::{LinkEnd, PreparedAttach};
@@ -32,7 +30,7 @@ use amqp_link_types::LinkError;
 use amqp_link_unsettled::{Abort, fits_text};
 use amqp_session_core::{Batch, BehindFrame, Session};
 use amqp_session_outgoing::Place;
-use amqp_session_performatives::{Attach, LinkFlow, SessionFrame, Transfer};
+use amqp_session_performatives::{Attach, SessionFrame, Transfer};
 use amqp_session_types::{OutputHandle, definitions};
 use bytes::Bytes;
 use serde_amqp_types::Symbol;
@@ -61,15 +59,6 @@ pub struct Closing {
     pub why: definitions::Error,
     /// Room for that Detach behind what the link has waiting then.
     pub place: Place<BehindFrame>,
-}
-
-/// What is made ready for a link before it takes the peer's Attach.
-#[derive(Drop)]
-pub struct AttachReady {
-    /// The deliveries that it gives up.
-    pub giving: GivingUp,
-    /// What it is closed with where it refuses the Attach, or can't give all of them up.
-    pub closing: Closing,
 }
 
 /// What the link is closed with that has this own handle in the session with this number, or is to get it, and of whose
@@ -105,81 +94,9 @@ pub fn make_room_to_tell(events: &mut Vec<Event>, count: usize) -> Result<(), Al
     events.reserve(count.checked_add(failed).ok_or(AllocError)?)
 }
 
-/// What the peer's Attach leaves to be done for the link that waits for it is made ready, before the link takes it, with
-/// what it is closed with: the transfers that give deliveries up, and room for them and for its Detach. Of the session
-/// nothing changes but the room for transfers.
-///
-/// It is refused where there is no memory, and nothing changes then.
-pub fn make_attach_ready(
-    session: &mut LinkSession,
-    alloc: Global,
-    limit: u32,
-    closing: Closing,
-    attach: &Attach,
-    out: &mut VecDeque<SessionFrame>,
-) -> Result<AttachReady, AllocError>
-    requires { HasPlaceToClose session.old closing }
-    ensures ready { IfOk result (IsReadyWith limit (planned_at (end_at session.old closing.handle) attach.now) closing) }
-    ensures sends { IfOk result (λ ready.
-        HasRoomToSend ready session.new (deque_len out.new) (deque_capacity out.new)) }
-    ensures bare { IfOk result (λ ready. All IsBare ready.giving.batches.items) }
-    ensures made { OnOk result (MadeRoom session.old session.new) }
-    ensures kept { OnErr result (session.new ≡ session.old) }
-    ensures out { out.new.items ≡ out.old.items }
-{
-    let giving = giving_up_in(&session.session, alloc, limit, closing.handle, attach)?;
-    make_room_for(session, giving, closing, out)
-}
-
-/// What is left to be done for a link that answers one that the peer asks for is made ready, as `make_attach_ready` does,
-/// before it is in the session, where the peer's Attach makes this of it; and there is room for one frame more, its own
-/// Attach, before the others. Of the session nothing changes but the room for transfers.
-///
-/// It is refused where there is no memory, and nothing changes then.
-pub fn make_answer_ready(
-    session: &mut LinkSession,
-    alloc: Global,
-    limit: u32,
-    closing: Closing,
-    taken: &PreparedAttach,
-    out: &mut VecDeque<SessionFrame>,
-) -> Result<AttachReady, AllocError>
-    requires { HasPlaceToClose session.old closing }
-    ensures ready { IfOk result (IsReadyWith limit (aborts_of taken.now) closing) }
-    ensures sends { IfOk result (λ ready.
-        HasRoomToSend ready session.new (deque_len out.new + 1) (deque_capacity out.new)) }
-    ensures bare { IfOk result (λ ready. All IsBare ready.giving.batches.items) }
-    ensures made { OnOk result (MadeRoom session.old session.new) }
-    ensures kept { OnErr result (session.new ≡ session.old) }
-    ensures out { out.new.items ≡ out.old.items }
-{
-    let giving = make_giving_up(alloc, limit, closing.handle, taken.aborts())?;
-    make_room_for(session, giving, closing, out)
-}
-
-/// Room for these transfers of a link, with one frame before them, and for the Detach with which it is closed. It is
-/// refused where there is no memory.
-fn make_room_for(
-    session: &mut LinkSession,
-    giving: GivingUp,
-    closing: Closing,
-    out: &mut VecDeque<SessionFrame>,
-) -> Result<AttachReady, AllocError>
-    requires { HasPlaceToClose session.old closing }
-    ensures ready { IfOk result (λ ready. ready ≡ record { giving = giving; closing = closing }) }
-    ensures sends { IfOk result (λ ready.
-        HasRoomToSend ready session.new (deque_len out.new + 1) (deque_capacity out.new)) }
-    ensures made { OnOk result (MadeRoom session.old session.new) }
-    ensures kept { OnErr result (session.new ≡ session.old) }
-    ensures out { out.new.items ≡ out.old.items }
-{
-    make_room_to_send(&mut session.session, out, giving.batches.len())?;
-    Ok(AttachReady { giving, closing })
-}
-
 /// The deliveries that the link with this own handle gives up by the peer's Attach, made ready. It is refused where
 /// there is no memory.
-fn giving_up_in(
+pub(crate) fn giving_up_in(
     session: &Session<Numbered<LinkEnd>>,
     alloc: Global,
     limit: u32,
@@ -223,7 +140,7 @@ fn none(alloc: Global) -> GivingUp
 
 /// These deliveries, made ready to be given up by the link with this own handle. It is refused where there is no
 /// memory.
-fn make_giving_up(
+pub fn make_giving_up(
     alloc: Global,
     limit: u32,
     handle: OutputHandle,
@@ -316,7 +233,7 @@ fn not_allowed(alloc: Global) -> Result<definitions::Error, AllocError>
     })
 }
 
-/// Room for so many transfers in the session, and for two frames beside them.
+/// Room for so many transfers in the session, and for three frames beside them.
 pub(crate) fn make_room_to_send(
     session: &mut Session<Numbered<LinkEnd>>,
     out: &mut VecDeque<SessionFrame>,
@@ -324,52 +241,20 @@ pub(crate) fn make_room_to_send(
 ) -> Result<(), AllocError>
     ensures room { OnOk result (count ≤ session.new.outgoing.room) }
     ensures spare { OnOk result (deque_len out.new + (frames_in session.new.outgoing.queues
-        + session.new.outgoing.room) + 2 ≤ deque_capacity out.new) }
+        + session.new.outgoing.room) + 3 ≤ deque_capacity out.new) }
     ensures made { OnOk result (MadeRoomIn session.old session.new) }
     ensures kept { OnErr result (session.new ≡ session.old) }
     ensures out { out.new.items ≡ out.old.items }
 {
-    match session.reserve_transfers(out, count, 2) {
+    match session.reserve_transfers(out, count, 3) {
         Ok(()) => Ok(()),
         Err(_) => Err(AllocError),
     }
 }
 
-/// The link for which this was made ready took the peer's Attach: it tells the outcomes of its messages that end by what
-/// the peer lists, and then it gives up the deliveries that are to be given up, in their order. Where the peer takes no
-/// frame for one of them, or its number is in use, the link is closed, as `close_for` does, with `FrameTooLarge` or
-/// `NumberInUse` (part 2, 2.6.12, 2.6.13). Else it takes what was kept of a Flow, where the link answers one that the
-/// peer asked for, and replies to it where that wants it (part 2, 2.7.4). It takes no memory.
-pub fn go_on_attached(
-    session: &mut LinkSession,
-    alloc: Global,
-    ready: AttachReady,
-    kept: Option<LinkFlow>,
-    out: &mut VecDeque<SessionFrame>,
-    events: &mut Vec<Event>,
-)
-    requires there { IsSome (end_at session.old ready.closing.handle) }
-    requires sends { HasRoomToSend ready session.old (deque_len out.old) (deque_capacity out.old) }
-    requires tells { HasRoomToTell ready.closing.count (vec_len events.old) (vec_capacity events.old) }
-    requires bare { All IsBare ready.giving.batches.items }
-    ensures { (limit : ℕ) (aborts : List Abort) → IsMadeReady limit ready.closing.handle aborts ready.giving →
-        DoesAttached limit ready.closing.session ready.closing.count ready.closing.handle ready.closing.why aborts kept
-        session.old out.old.items events.old.items session.new out.new.items events.new.items }
-{
-    let AttachReady { giving, closing } = ready;
-    let GivingUp { batches, all_fit } = giving;
-    let handle = closing.handle;
-    tell_first(session, handle, closing.count, Vec::new(alloc), events);
-    let stopped = give_up(&mut session.session, alloc, handle, batches, out);
-    match stuck_by(stopped, all_fit) {
-        Some(error) => close_for(session, alloc, closing, error, out, events),
-        None => take_kept(session, handle, kept, closing.place, out),
-    }
-}
-
 /// A session takes the transfers of the link with this own handle that give deliveries up, in their order. It stops at
 /// one whose number is in use, and answers whether it did. There is room for all of them, and it takes no memory.
-fn give_up(
+pub(crate) fn give_up(
     session: &mut Session<Numbered<LinkEnd>>,
     alloc: Global,
     handle: OutputHandle,
@@ -382,7 +267,11 @@ fn give_up(
     requires spare { deque_len out.old + (frames_in session.old.outgoing.queues + session.old.outgoing.room) + 1
         ≤ deque_capacity out.old }
     ensures hands { HandsEach handle batches.items session.old out.old.items result session.new out.new.items }
-    ensures spare { deque_len out.new < deque_capacity out.new }
+    ensures room { session.old.outgoing.room ≤ session.new.outgoing.room + length batches.items }
+    ensures spare {
+        deque_len out.new + (frames_in session.new.outgoing.queues + session.new.outgoing.room) + deque_capacity out.old
+        ≤ deque_len out.old + (frames_in session.old.outgoing.queues + session.old.outgoing.room)
+        + deque_capacity out.new }
     ensures place { (most : ℕ) → 1 ≤ most → room_behind handle.0 1 session.old.outgoing.queues ≤ most →
         room_behind handle.0 1 session.new.outgoing.queues ≤ most }
     ensures links { session.new.links ≡ session.old.links }

@@ -6,8 +6,8 @@
 //! each call does say specs/: Disposing and Dispositions, with what it is refused for in Refusals, and what a frame
 //! holds in Longest. Outcomes are told of the messages that a disposition of the peer reaches, and of those that
 //! a link has as it ends: specs/ Reached and All; what is echoed to the peer (part 2, 2.8.3), Echoing. What a link does
-//! once the peer's Attach is taken (part 2, 2.6.13), and which deliveries it gives up, says GivingUp; what is made ready
-//! for that, MadeReady. Which messages it sends on once it has credit, and how, says SendingOn.
+//! once the peer's Attach is taken (part 2, 2.6.13) says GoingOn: which deliveries it gives up, GivingUp; which messages
+//! it sends on once it has credit, and how, SendingOn; and what is made ready for that, MadeReady.
 #![tactic(auto)]
 
 mod cutting;
@@ -17,6 +17,7 @@ mod dispositions;
 mod echoing;
 mod ending;
 mod giving_up;
+mod going_on;
 mod looking;
 mod measuring;
 mod one;
@@ -31,8 +32,10 @@ pub use disposing_all::dispose_all;
 pub use echoing::{Echoes, make_echoes, send_echoes};
 pub use ending::{open_count, open_in, tell_by, tell_first};
 pub use giving_up::{
-    AttachReady, Closing, GivingUp, close_for, go_on_attached, make_answer_ready,
-    make_attach_ready, make_closing, make_room_to_tell,
+    Closing, GivingUp, close_for, make_closing, make_giving_up, make_room_to_tell,
+};
+pub use going_on::{
+    AttachReady, OnReady, go_on_attached, make_attach_ready, make_on_ready, make_room_for,
 };
 pub use looking::is_receiving;
 pub use measuring::delivery_fits;

@@ -76,7 +76,7 @@ pub fn make_flow_ready(
 }
 
 /// The transfers of these messages, in frames of at most `limit` bytes. It is refused where there is no memory.
-fn make_sending_on(
+pub(crate) fn make_sending_on(
     alloc: Global,
     limit: u32,
     handle: OutputHandle,

@@ -1,4 +1,4 @@
-use Rattle.std.proofs.Common.{◌≤◌, None, Option, Some, refl, subst, sym}
+use Rattle.std.proofs.Common.{◌≤◌, Option, refl, subst, sym}
 use Rattle.std.specs.Prelude.{IsSome}
 use Rattle.amqp_session_performatives.specs.declared.link_flow.LinkFlow.{LinkFlow}
 use Rattle.amqp_session_outgoing.specs.Queues.{room_behind}
@@ -19,8 +19,8 @@ send_reply-requires-clause-place c =
     subst (λ (s : LinksIn). room_behind c.args.handle.0 1 s.outgoing.queues ≤ c.args.place)
     (sym c.take_flow-reply.ensures.changed.1) c.requires.place
 
-pub returns-in-Some : goal.returns-in-Some
-returns-in-Some c =
+pub returns-in-Some-clause-takes : goal.returns-in-Some-clause-takes
+returns-in-Some-clause-takes c =
     subst
     (λ (kept : Option LinkFlow).
     TakesKept c.args.handle kept c.args.session.now c.args.out.now.items
@@ -32,13 +32,13 @@ returns-in-Some c =
             reply = c.take_flow-reply.result;
             mid = c.take_flow-reply.new.session;
             takes = c.take_flow-reply.ensures;
-            replies = c.send_reply.ensures;
+            replies = c.send_reply.ensures.replies;
           };
       rest = refl;
     })
 
-pub returns-in-None : goal.returns-in-None
-returns-in-None c =
+pub returns-in-None-clause-takes : goal.returns-in-None-clause-takes
+returns-in-None-clause-takes c =
     subst
     (λ (kept : Option LinkFlow).
     TakesKept c.args.handle kept c.args.session.now c.args.out.now.items c.args.session.now c.args.out.now.items)

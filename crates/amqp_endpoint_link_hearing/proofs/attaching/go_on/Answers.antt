@@ -1,8 +1,9 @@
-use Rattle.std.proofs.Common.{IsSome, subst, sym, ◌∙◌}
+use Rattle.std.proofs.Common.{[], IsSome, subst, sym, ◌∙◌}
 use Rattle.std.specs.VecDeque.{deque_capacity, deque_len}
 use Rattle.amqp_endpoint_attached.specs.Linked.{Linked, end_at}
-use Rattle.amqp_endpoint_messages.specs.MadeReady.{HasRoomToSend}
+use Rattle.amqp_endpoint_messages.specs.GoingOn.{HasRoomToSend}
 use Rattle.amqp_endpoint_link_hearing.proofs.AttachReadied.{attached-goes, attached-on, attached-rests, closing-fits}
+use Rattle.amqp_endpoint_link_hearing.proofs.AttachReadied.{credit-alone, ready-alone, tagged-alone}
 use Rattle.amqp_endpoint_link_hearing.proofs.Lent.{behind-talk, end-lent, none-lent}
 use Rattle.amqp_endpoint_link_hearing.proofs.attaching.go_on.Goals as goal
 
@@ -27,13 +28,22 @@ go_on_attached-requires-clause-sends c =
 pub go_on_attached-requires-clause-bare : goal.go_on_attached-requires-clause-bare
 go_on_attached-requires-clause-bare c = c.requires.serves.bare
 
+pub go_on_attached-requires-clause-credit : goal.go_on_attached-requires-clause-credit
+go_on_attached-requires-clause-credit c =
+    credit-alone c.args.ready c.requires.serves.none c.deref_mut.result.now
+
+pub go_on_attached-requires-clause-tagged : goal.go_on_attached-requires-clause-tagged
+go_on_attached-requires-clause-tagged c = tagged-alone c.args.ready c.requires.serves.none
+
 pub returns-clause-does : goal.returns-clause-does
 returns-clause-does c = λ limit aborts made.
     attached-on c.args.ready.closing.session c.args.ready.closing.count c.args.ready.closing.handle
     c.args.ready.closing.why c.requires.serves.why c.args.talk.now
     c.in-Some.live.now c.in-Some.ensures.value c.deref_mut.result.now c.go_on_attached.new.session
     c.deref_mut.ensures.value c.args.out.now.items c.go_on_attached.new.out.items c.args.events.now.items
-    c.go_on_attached.new.events.items limit aborts (c.go_on_attached.ensures limit aborts made)
+    c.go_on_attached.new.events.items limit aborts
+    (c.go_on_attached.ensures limit aborts []
+    (ready-alone c.args.ready c.requires.serves.none limit aborts made))
 
 pub returns-clause-goes : goal.returns-clause-goes
 returns-clause-goes c = λ limit aborts made least.
@@ -46,7 +56,9 @@ returns-clause-goes c = λ limit aborts made least.
     c.args.ready.closing.why c.requires.serves.why c.args.talk.now
     c.in-Some.live.now c.in-Some.ensures.value c.deref_mut.result.now c.go_on_attached.new.session
     c.deref_mut.ensures.value c.args.out.now.items c.go_on_attached.new.out.items c.args.events.now.items
-    c.go_on_attached.new.events.items limit aborts (c.go_on_attached.ensures limit aborts made))
+    c.go_on_attached.new.events.items limit aborts
+    (c.go_on_attached.ensures limit aborts []
+    (ready-alone c.args.ready c.requires.serves.none limit aborts made)))
     (closing-fits limit c.args.ready.closing.handle c.handle_is_read.ensures least)
     (c.len-from.ensures ∙ c.args.out.now.ok.0) c.frames_are_read.ensures
 
@@ -60,4 +72,6 @@ returns-clause-rests c = λ limit aborts made.
     c.args.ready.closing.why c.requires.serves.why c.args.talk.now
     c.in-Some.live.now c.in-Some.ensures.value c.deref_mut.result.now c.go_on_attached.new.session
     c.deref_mut.ensures.value c.args.out.now.items c.go_on_attached.new.out.items c.args.events.now.items
-    c.go_on_attached.new.events.items limit aborts (c.go_on_attached.ensures limit aborts made))
+    c.go_on_attached.new.events.items limit aborts
+    (c.go_on_attached.ensures limit aborts []
+    (ready-alone c.args.ready c.requires.serves.none limit aborts made)))

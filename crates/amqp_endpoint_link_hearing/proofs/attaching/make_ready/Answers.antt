@@ -33,7 +33,7 @@ returns-in-Ok-clause-ready c = λ channel named closes.
     readied c.args.limit c.args.talk.now channel named c.args.attach.now _ _ c.args.closing closes c.in-Some.closing
     c.in-Some.is c.in-Some-live_mut.session.now c.deref_mut.result.now c.make_attach_ready.new.session
     c.in-Some-live_mut.ensures.value c.deref_mut.ensures.value c.in-Ok.ensures.made c.in-Ok.ready
-    c.in-Ok.ensures.ready c.in-Ok.ensures.sends c.in-Ok.ensures.bare
+    c.in-Ok.ensures.ready c.in-Ok.ensures.sends c.in-Ok.ensures.bare c.in-Ok.ensures.none
 
 pub returns-in-Ok-clause-counts : goal.returns-in-Ok-clause-counts
 returns-in-Ok-clause-counts c =

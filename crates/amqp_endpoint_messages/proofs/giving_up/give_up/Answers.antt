@@ -27,6 +27,9 @@ hand_over-requires-clause-room c =
           (subst (λ (l : List Transfers). All IsBare l) c.in-Some.ensures.items c.loop-batch.invariant.bare)),
     )
 
+pub hand_over-requires-clause-spare : goal.hand_over-requires-clause-spare
+hand_over-requires-clause-spare c = omega (arith, c.requires.spare, c.loop-batch.invariant.spare)
+
 pub loop-batch-preserved : goal.loop-batch-preserved
 loop-batch-preserved c =
     record {
@@ -58,7 +61,16 @@ loop-batch-preserved c =
             (All-head IsBare c.in-Some.batch c.pop_front.new.self.items
             (subst (λ (l : List Transfers). All IsBare l) c.in-Some.ensures.items c.loop-batch.invariant.bare)),
       );
-      spare = c.hand_over.ensures.spare;
+      used = omega (
+        arith,
+        c.loop-batch.invariant.used,
+        ap (λ (l : List Transfers). length l) c.in-Some.ensures.items,
+        c.hand_over.ensures.room,
+        bare-alone c.in-Some.batch
+            (All-head IsBare c.in-Some.batch c.pop_front.new.self.items
+            (subst (λ (l : List Transfers). All IsBare l) c.in-Some.ensures.items c.loop-batch.invariant.bare)),
+      );
+      spare = omega (arith, c.loop-batch.invariant.spare, c.hand_over.ensures.spare);
       place = λ most least serves.
           c.hand_over.ensures.place most least (c.loop-batch.invariant.place most least serves);
       links = c.hand_over.ensures.links ∙ c.loop-batch.invariant.links;
@@ -76,6 +88,21 @@ returns-then-not-hand_over-clause-hands c =
     HandsOne c.args.handle c.in-Some.batch c.loop-batch.session c.loop-batch.out.items b c.hand_over.new.session
     c.hand_over.new.out.items)
     c.if-not-hand_over.true c.hand_over.ensures.handed))
+
+pub returns-then-not-hand_over-clause-room : goal.returns-then-not-hand_over-clause-room
+returns-then-not-hand_over-clause-room c =
+    omega (
+      arith,
+      c.loop-batch.invariant.used,
+      ap (λ (l : List Transfers). length l) c.in-Some.ensures.items,
+      c.hand_over.ensures.room,
+      bare-alone c.in-Some.batch
+          (All-head IsBare c.in-Some.batch c.pop_front.new.self.items
+          (subst (λ (l : List Transfers). All IsBare l) c.in-Some.ensures.items c.loop-batch.invariant.bare)),
+    )
+
+pub returns-then-not-hand_over-clause-spare : goal.returns-then-not-hand_over-clause-spare
+returns-then-not-hand_over-clause-spare c = omega (arith, c.loop-batch.invariant.spare, c.hand_over.ensures.spare)
 
 pub returns-then-not-hand_over-clause-place : goal.returns-then-not-hand_over-clause-place
 returns-then-not-hand_over-clause-place c = λ most least serves.

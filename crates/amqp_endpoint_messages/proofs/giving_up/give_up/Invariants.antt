@@ -18,8 +18,12 @@ invariant-loop-batch l =
       there : IsSome (link_at l.session l.handle.0);
       bare : All IsBare l.batches.items;
       room : length l.batches.items ≤ l.session.outgoing.room;
-      spare : deque_len l.out + (frames_in l.session.outgoing.queues + l.session.outgoing.room) + 1
-          ≤ deque_capacity l.out;
+      used : l.initial.session.outgoing.room + length l.batches.items
+          ≤ l.session.outgoing.room + length l.initial.batches.items;
+      spare : deque_len l.out + (frames_in l.session.outgoing.queues + l.session.outgoing.room)
+          + deque_capacity l.initial.out
+          ≤ deque_len l.initial.out + (frames_in l.initial.session.outgoing.queues + l.initial.session.outgoing.room)
+          + deque_capacity l.out;
       place : (most : ℕ) → 1 ≤ most → room_behind l.handle.0 1 l.initial.session.outgoing.queues ≤ most
           → room_behind l.handle.0 1 l.session.outgoing.queues ≤ most;
       links : l.session.links ≡ l.initial.session.links;

@@ -6,7 +6,7 @@ pub returns-clause-sends : goal.returns-clause-sends
 returns-clause-sends c =
     record {
       room = omega (arith, c.in_ok-make_room_to_send.ensures.room, c.in_ok-sending.ensures.ready.count);
-      spare = c.in_ok-make_room_to_send.ensures.spare;
+      spare = omega (arith, c.in_ok-make_room_to_send.ensures.spare);
       place =
           record {
             some = c.requires.place.some;

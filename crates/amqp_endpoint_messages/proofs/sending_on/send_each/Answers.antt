@@ -72,7 +72,7 @@ loop-batch-preserved c =
           subst
           (λ (o : sending.State TransferFrame BehindFrame).
           deque_len c.hand_over.new.out + (frames_in o.queues + o.room) + 1 ≤ deque_capacity c.hand_over.new.out)
-          (sym waits) c.hand_over.ensures.spare;
+          (sym waits) (omega (arith, c.loop-batch.invariant.spare, c.hand_over.ensures.spare));
       place = λ most least serves.
           subst
           (λ (o : sending.State TransferFrame BehindFrame). room_behind c.args.handle.0 1 o.queues ≤ most)
