@@ -25,10 +25,11 @@ use std::collections::VecDeque;
 /// unsettled deliveries as a frame of `limit` bytes holds. Where the peer asks there for a link of its name, and has
 /// the other end of it, the link answers that, and takes the peer's Attach: `Attached` is told, and behind that the
 /// outcomes of its messages that the peer's list decides; then it gives up the deliveries that are to be given up, in
-/// their order, each by a transfer of its own (part 2, 2.6.13), and takes what was kept of a Flow, to which it replies
-/// where that wants it (part 2, 2.7.4). Where no frame of `limit` bytes holds one of these transfers, or its number is
-/// in use, the link is closed instead: `Refused` is told with `FrameTooLarge` or `NumberInUse`, and behind that the
-/// outcomes of its messages that end by it. What is handed out fits a `limit` of 512 or more.
+/// their order, each by a transfer of its own (part 2, 2.6.13), takes what was kept of a Flow, to which it replies where
+/// that wants it (part 2, 2.7.4), and sends on as many of its open messages as it has credit for then (part 2, 2.6.7).
+/// Where no frame of `limit` bytes holds one of these transfers, or its number is in use, the link is closed instead:
+/// `Refused` is told with `FrameTooLarge` or `NumberInUse`, and behind that the outcomes of its messages that end by
+/// it. What is handed out fits a `limit` of 512 or more.
 ///
 /// It is refused, tested in this order, with `UnknownSession` exactly where no session has the number; with
 /// `IllegalState` exactly where the session isn't mapped (part 2, 2.5.5); with `DuplicatedLinkName` exactly where a

@@ -268,8 +268,7 @@ pub(crate) fn give_up(
         ≤ deque_capacity out.old }
     ensures hands { HandsEach handle batches.items session.old out.old.items result session.new out.new.items }
     ensures room { session.old.outgoing.room ≤ session.new.outgoing.room + length batches.items }
-    ensures spare {
-        deque_len out.new + (frames_in session.new.outgoing.queues + session.new.outgoing.room) + deque_capacity out.old
+    ensures spare { deque_len out.new + (frames_in session.new.outgoing.queues + session.new.outgoing.room) + deque_capacity out.old
         ≤ deque_len out.old + (frames_in session.old.outgoing.queues + session.old.outgoing.room)
         + deque_capacity out.new }
     ensures place { (most : ℕ) → 1 ≤ most → room_behind handle.0 1 session.old.outgoing.queues ≤ most →
