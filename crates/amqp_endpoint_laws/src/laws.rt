@@ -403,10 +403,11 @@ pub fn a_beginning_is_read_as_a_beginning()
 
 /// What is handed out is a beginning of what was accepted, or sent on, message for message, with tag, format and bytes,
 /// and settled as it was sent. Of one end is told: the transfers of its attachment with a name and a count, among the
-/// frames that it handed out in a session, and behind them those that wait, say what its link says by these deeds, as
-/// by the call by which it attaches, where it may send messages on already, and by those since then. Of the other: its
-/// link hands out what the transfers of the attachment with that name and that count say, among the frames that came
-/// there in the session. And what came are the first of what was handed out (part 2, 2.6.3, 2.6.12, 2.6.14).
+/// frames that it handed out in a session, and behind them those that wait, say what its link says by these deeds. Of
+/// the other: its link hands out what the transfers of the attachment with that name and that count say, among the
+/// frames that came there in the session. And what came are the first of what was handed out. That the first half holds
+/// of the deeds from the call on by which a link attaches says `what_an_attachment_sends_is_what_it_accepted` (part 2,
+/// 2.6.12, 2.6.14).
 pub fn what_is_handed_out_begins_what_was_accepted()
     ensures { (name : List ℕ) (others link : ℕ) (own : OutputHandle) (sent : List SessionFrame)
         (waiting : List Piece) (old new : LinkedSessions) (deeds : List Deed) (came more : List FrameBody)
@@ -457,9 +458,8 @@ pub fn what_comes_in_a_session_begins_what_went_in_one()
 /// Between two ends what is handed out of an attachment is a beginning of what was accepted for it, message for message
 /// and in order: in sessions that belong together, as the law before says, of an attachment with the same name and the
 /// same count at both ends. The one is that by which the link hands out that does (`HandsOut`), and the other that
-/// whose transfers, with those that still wait, say what the sending link says by these deeds, as by the call by which
-/// it attaches, where it may send messages on already, and by those since then; and none of the transfers that came
-/// resumes a delivery (part 2, 2.6.3, 2.6.12, 2.6.14).
+/// whose transfers, with those that still wait, say what the sending link says by these deeds; and none of the transfers
+/// that came resumes a delivery (part 2, 2.6.12, 2.6.14).
 pub fn messages_are_handed_out_in_order_between_two_ends()
     ensures { (here there channel others : ℕ) (ours theirs : List Wired) (more : List Frame) (s : LinkedSessions)
         (session link : ℕ) (own : OutputHandle) (name : List ℕ) (handed : List Handed) (waiting : List Piece)

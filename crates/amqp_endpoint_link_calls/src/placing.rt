@@ -1,7 +1,6 @@
 //! How a link attaches in its session (part 2, 2.6.3).
-ghost use Rattle.std.specs.Prelude.{◌≡◌, ◌<◌, ◌≤◌, ◌+◌, ◌^◌, ◌++◌, ℕ, All, List, None, Ok, Some, true, IfErr, IfOk, IsSome};
-ghost use Rattle.std.specs.Prelude.{OnErr};
-ghost use Rattle.std.specs.Prelude.{OnOk};
+ghost use Rattle.std.specs.Prelude.{◌≡◌, ◌<◌, ◌≤◌, ◌+◌, ◌^◌, ◌++◌, ℕ, All, List, None, Ok, Some, true, IfErr, IfOk};
+ghost use Rattle.std.specs.Prelude.{IsSome, OnErr, OnOk};
 ghost use Rattle.std.specs.FinMap as map;
 ghost use Rattle.std.specs.Vec.{vec_capacity, vec_len};
 ghost use Rattle.std.specs.VecDeque.{deque_capacity, deque_len};
@@ -241,7 +240,8 @@ fn make_answer(
 }
 
 /// What this link has to do behind its Attach, by which it answers as it was made ready: the deliveries that it gives
-/// up, and the messages that what was kept of a Flow lets it send on; with what it is closed with.
+/// up, and the messages that what was kept of a Flow lets it send on; with what it is closed with. It is refused where
+/// there is no memory.
 fn make_ready(
     live: &LinkSession,
     alloc: Global,
@@ -293,7 +293,8 @@ struct Behind {
 }
 
 /// Room for all that this link has to do behind its Attach, for its own Attach before that, and for all that is told.
-/// Of the session nothing changes but the room for transfers.
+/// Of the session nothing changes but the room for transfers. It is refused where there is no memory, and nothing
+/// changes then.
 fn make_behind(
     live: &mut LinkSession,
     alloc: Global,

@@ -1,7 +1,8 @@
 -- A link that takes what was kept of a Flow hands out at most one frame more, and keeps its session's room; and it has
 -- the credit then that it was to have.
 use Rattle.std.proofs.Common.{◌≡◌, ◌+◌, ◌≤◌, ◌==◌, ◌-◌, ℕ, Bool, true, false, List, [], ◌∷◌, ◌++◌, Option, Some, None}
-use Rattle.std.proofs.Common.{append-nil, drop, length, length-append, option_map, if◌then◌else◌, arith, refl, sym, ap, subst, ◌∙◌}
+use Rattle.std.proofs.Common.{append-nil, drop, length, length-append, option_map, if◌then◌else◌, arith, refl, sym}
+use Rattle.std.proofs.Common.{ap, subst, ◌∙◌}
 use Rattle.std.specs.Prelude.{option_to_list}
 use Rattle.std.proofs.lemmas.Option.{none-some, same_Some}
 use Rattle.amqp_session_types.specs.declared.handles.OutputHandle.{OutputHandle}

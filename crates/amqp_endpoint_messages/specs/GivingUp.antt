@@ -1,5 +1,5 @@
--- What a link does once it is attached at both ends: it tells the outcomes that the peer's list decides, and gives
--- deliveries up. Part 2, 2.6.6, 2.6.12, 2.6.13, 2.7.5; part 3, 3.4.
+-- How a link gives deliveries up once it is attached at both ends, and is closed where it can't: part 2, 2.6.6, 2.6.12,
+-- 2.6.13, 2.7.5; part 3, 3.4.
 use Rattle.std.specs.Prelude.{◌≡◌, ◌⊎◌, ℕ, ◌-◌, ◌^◌, List, [], ◌∷◌, ◌++◌, All, Bool, true, false, Option, Some, None}
 use Rattle.std.specs.Prelude.{map, Result, Ok, Err}
 use Rattle.std.specs.Prelude.{IsSome, if◌then◌else◌}

@@ -47,7 +47,8 @@ pub record IsClosing (s : Linked) (number : ℕ) (own : OutputHandle) (opened : 
   }
   pub place : HasPlaceToClose s closing
 
--- There is room for what is told: the outcomes of so many messages, then one event more, and once more so many outcomes.
+-- There is room for what is told: the outcomes of so many messages, then one event more, and once more so many
+-- outcomes.
 abbrev pub HasRoomToTell : ℕ → ℕ → ℕ → Type 0
 HasRoomToTell count len capacity = len + (count + (count + 1)) ≤ capacity
 

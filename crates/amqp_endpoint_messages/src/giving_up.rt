@@ -1,5 +1,5 @@
-//! What a link does once it is attached at both ends: it tells the outcomes that the peer's list decides, and gives
-//! deliveries up (part 2, 2.6.13, 2.7.5).
+//! How a link gives deliveries up once it is attached at both ends, and is closed where it can't (part 2, 2.6.6, 2.6.13,
+//! 2.7.5).
 ghost use Rattle.std.specs.Prelude.{◌≡◌, ◌+◌, ◌≤◌, ◌<◌, ℕ, [], ◌∷◌, All, IfOk, IsSome, None, OnErr, OnOk, length};
 ghost use Rattle.std.specs.Vec.{vec_capacity, vec_len};
 ghost use Rattle.std.specs.VecDeque.{deque_capacity, deque_len};
