@@ -3,6 +3,13 @@ pub mod FrameLaws
 pub mod ReadingLaws
 pub mod Layouts
 pub mod Bodies
+pub mod Fronts
+pub mod TransferRead
+pub mod Puts
+pub mod ItemTexts
+pub mod TransferWritten
+pub mod DispositionRead
+pub mod DispositionWritten
 pub mod Empties
 pub mod Writing
 pub mod Shorter
@@ -13,6 +20,7 @@ pub mod Dividing
 pub mod Refusing
 pub mod StandardFacts
 pub mod Appended
+pub mod CommonLaid
 pub mod Tables
 pub mod Histories
 pub mod States

@@ -3,6 +3,9 @@ pub mod Text
 pub mod Parts
 pub mod Header
 pub mod Body
+pub mod Items
+pub mod CommonTransfer
+pub mod CommonDisposition
 pub mod Sizes
 pub mod Piece
 pub mod Appending

@@ -46,9 +46,9 @@ impl FrameEncoder {
             FrameBody::Transfer {
                 performative,
                 payload,
-            } => self.append_whole(alloc, channel, performative, payload.as_slice(), room, out),
+            } => self.append_transfer(alloc, channel, performative, payload.as_slice(), room, out),
             FrameBody::Disposition(disposition) => {
-                self.append_whole(alloc, channel, disposition, &[], room, out)
+                self.append_disposition(alloc, channel, disposition, room, out)
             }
             FrameBody::Detach(detach) => self.append_whole(alloc, channel, detach, &[], room, out),
             FrameBody::End(end) => self.append_whole(alloc, channel, end, &[], room, out),
@@ -80,7 +80,7 @@ impl FrameEncoder {
 
     /// Appends a frame with this performative and this payload, where it has room.
     #[tactic(auto, using(crate::proofs::Appended::laid_in, crate::proofs::Appended::laid_nowhere))]
-    fn append_whole<P: Serialize>(
+    pub(crate) fn append_whole<P: Serialize>(
         &self,
         alloc: Global,
         channel: u16,
@@ -146,7 +146,7 @@ fn append_sized<P: Serialize>(
 }
 
 /// The size field and the header of a frame of so many bytes on the channel (part 2, 2.3.1).
-fn front(size: u32, channel: u16) -> [u8; HEADER_SIZE]
+pub(crate) fn front(size: u32, channel: u16) -> [u8; HEADER_SIZE]
     ensures { result ≡ to_be_bytes w32 size ++ (2 ∷ 0 ∷ to_be_bytes w16 channel) }
 {
     let [a, b, c, d] = size.to_be_bytes();

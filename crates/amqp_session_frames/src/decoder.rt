@@ -2,11 +2,14 @@
 ghost use Rattle.std.specs.Prelude.{◌≡◌, IfErr, IfNone, IfOk, IfSome};
 ghost use Rattle.amqp_session_frames.specs.Body.{BodyRefused, Performed, PerformativeRefused};
 ghost use Rattle.amqp_session_frames.specs.Text.{BodyText, FrameText, IsNoEmpty, NotRead, empty_on};
+ghost use Rattle.amqp_session_performatives.specs.declared.performative.Performative.TheVariants as performing;
 
+use crate::common_disposition::{self, read_disposition};
+use crate::common_transfer::{self, read_transfer};
 use crate::error::Error;
 use crate::frame::{Frame, FrameBody};
 use crate::header::read_header;
-use amqp_session_performatives::Performative;
+use amqp_session_performatives::{Performative, Transfer};
 use bytes::Bytes;
 use serde_amqp_de::from_reader;
 use serde_amqp_read::SliceReader;
@@ -70,10 +73,43 @@ fn read_body(alloc: Global, content: Bytes) -> Result<FrameBody, Error>
     if content.is_empty() {
         return Ok(FrameBody::Empty);
     }
+    if has_code(content.as_slice(), common_transfer::CODE) {
+        if let Some((transfer, read)) = read_transfer(alloc, content.as_slice()) {
+            return Ok(carried(transfer, read, content));
+        }
+    }
+    if has_code(content.as_slice(), common_disposition::CODE) {
+        if let Some(disposition) = read_disposition(content.as_slice()) {
+            return Ok(FrameBody::Disposition(disposition));
+        }
+    }
     let (performative, read) = read_performative(alloc, content.as_slice())?;
     let mut payload = content;
     payload.advance(read);
     Ok(FrameBody::of(performative, payload))
+}
+
+/// Whether a record with this descriptor may stand in front: others begin so, too.
+#[inline(always)]
+fn has_code(content: &[u8], code: u8) -> bool {
+    if content.len() < 3 {
+        return false;
+    }
+    content[2] == code
+}
+
+/// The body of this transfer, which stands in front in so many bytes, and of what stands behind it.
+#[tactic(auto, using(crate::proofs::Bodies::bodies))]
+fn carried(transfer: Transfer, read: usize, content: Bytes) -> FrameBody
+    requires { Performed content (performing.Transfer transfer) read }
+    ensures { BodyText content result }
+{
+    let mut behind = content;
+    behind.advance(read);
+    FrameBody::Transfer {
+        performative: transfer,
+        payload: behind,
+    }
 }
 
 /// The performative that stands in front, and how many bytes it has.

@@ -11,11 +11,17 @@
 //! `frame_text` there; in which frames a transfer goes, `AreParts` in specs/Parts.antt. That bytes are at most one frame, that
 //! a frame that was written is read back, and that a stream is read in one way, are laws: see [`laws`].
 //!
+//! A Transfer and a Disposition in their common forms, as nearly all of them are, are read and written by hand, in
+//! common_transfer.rt and common_disposition.rt. What is read and written is the same.
+//!
 //! What a call of a [`Connection`] does says `Step` in specs/Steps.antt; which call leads from which state to which
 //! says specs/Table.antt.
 #![tactic(auto)]
 
 mod appending;
+mod appending_common;
+mod common_disposition;
+mod common_transfer;
 mod connection;
 pub mod connection_laws;
 mod decoder;
@@ -23,6 +29,7 @@ mod encoder;
 mod error;
 mod frame;
 mod header;
+mod items;
 pub mod laws;
 mod part;
 mod piece;

@@ -61,28 +61,28 @@ returns-in-Flow c =
 pub returns-in-Transfer : goal.returns-in-Transfer
 returns-in-Transfer c =
     record {
-      ok = IfOk-weaker c.append_whole-in-Transfer.result _ _
+      ok = IfOk-weaker c.append_transfer.result _ _
           (λ v w. whole_appended c.args.self.now c.args.room c.args.frame.now _
           (performing.Transfer c.in-Transfer.performative) _ v _ _ c.in-Transfer.is refl c.as_slice.ensures w)
-          c.append_whole-in-Transfer.ensures.ok;
-      refused = IfErr-weaker c.append_whole-in-Transfer.result _ _
+          c.append_transfer.ensures.ok;
+      refused = IfErr-weaker c.append_transfer.result _ _
           (λ e r. not_appended c.args.self.now c.args.frame.now _ (performing.Transfer c.in-Transfer.performative)
-          _ e c.in-Transfer.is refl c.as_slice.ensures r) c.append_whole-in-Transfer.ensures.refused;
-      same = c.append_whole-in-Transfer.ensures.same;
+          _ e c.in-Transfer.is refl c.as_slice.ensures r) c.append_transfer.ensures.refused;
+      same = c.append_transfer.ensures.same;
     }
 
 pub returns-in-Disposition : goal.returns-in-Disposition
 returns-in-Disposition c =
     record {
-      ok = IfOk-weaker c.append_whole-in-Disposition.result _ _
+      ok = IfOk-weaker c.append_disposition.result _ _
           (λ v w. whole_appended c.args.self.now c.args.room c.args.frame.now _
           (performing.Disposition c.in-Disposition.disposition) _ v _ _ c.in-Disposition.is refl refl w)
-          c.append_whole-in-Disposition.ensures.ok;
-      refused = IfErr-weaker c.append_whole-in-Disposition.result _ _
+          c.append_disposition.ensures.ok;
+      refused = IfErr-weaker c.append_disposition.result _ _
           (λ e r. not_appended c.args.self.now c.args.frame.now _
           (performing.Disposition c.in-Disposition.disposition) _ e c.in-Disposition.is refl refl r)
-          c.append_whole-in-Disposition.ensures.refused;
-      same = c.append_whole-in-Disposition.ensures.same;
+          c.append_disposition.ensures.refused;
+      same = c.append_disposition.ensures.same;
     }
 
 pub returns-in-Detach : goal.returns-in-Detach
