@@ -2,6 +2,8 @@ pub mod Apart
 pub mod Owning
 pub mod Places
 pub mod Slots
+pub mod Spreading
+pub mod Beside
 pub mod Naming
 pub mod OwningLinks
 pub mod Once

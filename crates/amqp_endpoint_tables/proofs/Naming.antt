@@ -2,7 +2,7 @@
 use Rattle.std.proofs.lemmas.Bool.Decides.{eqb_tells}
 use Rattle.std.proofs.lemmas.Option.{none-some, same_Some}
 use Rattle.std.proofs.lemmas.Slice.Eq.{bytes_eq-Decides}
-use Rattle.std.proofs.Common.{◌≡◌, ◌≢◌, ◌⊎◌, inl, inr, ℕ, Bool, true, false, true≢false, cond, List, [], ◌∷◌, ◌++◌, Option, Some, None, refl, sym, ap, ◌∙◌, ◌==◌, length, slice_set, slice_index_or, subst, OnSome, IfNone}
+use Rattle.std.proofs.Common.{◌≡◌, ◌≢◌, ◌⊎◌, inl, inr, ℕ, Bool, true, false, true≢false, cond, List, [], ◌∷◌, ◌++◌, Option, Some, None, refl, sym, ap, ◌∙◌, ◌==◌, length, length-set, slice_set, slice_index_or, subst, OnSome, IfNone}
 use Rattle.std.specs.Map.{lookup}
 use Rattle.std.specs.Str.{bytes_eq}
 use Rattle.amqp_endpoint_tables.specs.declared.link_place.LinkPlace.{LinkPlace}
@@ -53,6 +53,15 @@ module _ {L : Type 0} where
   moved-named old new numbers number place (Some had) put none named =
       subst (λ (ls : List (Option (Named L))). AreNamed ls numbers) (sym put)
       (same-named old (put_in old number place) numbers (name-put old number place) named)
+
+  -- which leaves their count
+  pub moved-length : (old new : List (Option (Named L))) (number : ℕ) (place : LinkPlace L)
+      (had : Option (LinkPlace L)) → OnSome had (new ≡ put_in old number place) → IfNone had (new ≡ old)
+      → length new ≡ length old
+  moved-length old new number place None put none = ap (λ (ls : List (Option (Named L))). length ls) none
+  moved-length old new number place (Some had) put none =
+      ap (λ (ls : List (Option (Named L))). length ls) put
+      ∙ length-set old number (moved (slice_index_or old number None) place)
 
   -- a link that is lent
   pub lent-named : (links : List (Option (Named L))) (numbers : Numbers) (number : ℕ) (slot : Option (Named L))

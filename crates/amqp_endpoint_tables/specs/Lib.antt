@@ -2,6 +2,8 @@ pub mod State
 pub mod Steps
 pub mod Lends
 pub mod Own
+pub mod Spread
+pub mod LendsNumbered
 pub mod LinkState
 pub mod LinkSteps
 pub mod Inside

@@ -12,6 +12,7 @@ pub mod link_laws;
 mod link_place;
 mod links;
 mod moving;
+mod numbered;
 mod place;
 mod sessions;
 

@@ -9,6 +9,7 @@ ghost use Rattle.amqp_endpoint_tables.specs.LinkSteps.{Closed, Entered, HandedOu
 
 use crate::link_place::{LinkPlace, LinkRefusal, Named, NewName};
 use crate::moving;
+use crate::numbered::Numbered;
 use amqp_session_types::OutputHandle;
 use indexmap::IndexMap;
 use serde_amqp_types::Text;
@@ -25,7 +26,7 @@ use std::marker::Model;
 /// A clause sees them as the record `State`: the memory that they have taken is no part of their value, but for how
 /// many links more are sure to find room.
 pub struct Links<L> {
-    links: Vec<Option<Named<L>>>,
+    links: Numbered<Named<L>>,
     /// The number of each that isn't closed, by its name.
     numbers: IndexMap<Text, u64>,
     room: usize,
@@ -42,9 +43,8 @@ impl<L: Drop> Drop for Links<L> {
 }
 
 impl<L> Model for Links<L> {
-    ghost use Rattle.std.specs.Prelude.{◌+◌, ◌≤◌};
+    ghost use Rattle.std.specs.Prelude.{◌+◌, ◌^◌, ◌<◌, ◌≤◌, length};
     ghost use Rattle.std.specs.Coded.{codes};
-    ghost use Rattle.std.specs.Vec.{vec_len, vec_capacity};
     ghost use Rattle.indexmap.specs.IndexMap.{spare};
     ghost use Rattle.amqp_endpoint_tables.specs.LinkState.{State};
     ghost use Rattle.amqp_endpoint_tables.specs.Inside.{AreNamed};
@@ -56,7 +56,7 @@ impl<L> Model for Links<L> {
     ghost view = { λ s. record { links = s.links.items; room = s.room } };
 
     ghost invariant = { λ s. AreNamed s.links.items s.numbers.entries
-        × (vec_len s.links + s.room ≤ vec_capacity s.links) × (s.room ≤ spare s.numbers) };
+        × (s.room ≤ s.links.spare) × (s.room ≤ spare s.numbers) × (length s.links.items + s.room < 2 ^ 64) };
 }
 
 impl<L: Drop> Links<L> {
@@ -65,7 +65,7 @@ impl<L: Drop> Links<L> {
         ensures { result ≡ fresh }
     {
         Links {
-            links: Vec::new(alloc),
+            links: Numbered::new(alloc),
             numbers: IndexMap::new(alloc),
             room: 0,
         }
@@ -75,7 +75,7 @@ impl<L: Drop> Links<L> {
     pub fn next_number(&self) -> u64
         ensures { result ≡ length self.now.links }
     {
-        self.links.len() as u64
+        self.links.next()
     }
 
     /// How many links more are sure to find room, as `make_room` made it.
@@ -127,7 +127,7 @@ impl<L: Drop> Links<L> {
         if self.at_rest(number).is_none() {
             return None;
         }
-        Some(moving::rest_in(&mut self.links[number as usize]))
+        Some(self.links.at_mut(number).at_rest_mut())
     }
 
     /// The number of the link that isn't closed and has this name, if there is one (part 2, 2.6.1).
@@ -140,8 +140,8 @@ impl<L: Drop> Links<L> {
 
     /// Makes room for one link more, and copies the name that it is to have. Nothing else changes.
     ///
-    /// It is refused with `NameInUse` where a link that isn't closed has the name (part 2, 2.6.1), and with `Memory`.
-    /// Nothing changes then.
+    /// It is refused with `NameInUse` where a link that isn't closed has the name (part 2, 2.6.1), and with `Memory`,
+    /// also where no number would be left for it. Nothing changes then.
     pub fn make_room(&mut self, name: &Text) -> Result<NewName, LinkRefusal>
         ensures { RoomMade self.old name.now result self.new }
     {
@@ -149,6 +149,9 @@ impl<L: Drop> Links<L> {
             return Err(LinkRefusal::NameInUse);
         }
         let room = self.room.max(1);
+        if self.links.next() > u64::MAX - room as u64 {
+            return Err(LinkRefusal::Memory);
+        }
         self.links.reserve(room)?;
         self.numbers.reserve(room)?;
         let new_name = NewName::copied(name)?;
@@ -229,6 +232,6 @@ impl<L: Drop> Links<L> {
     fn link(&self, number: u64) -> Option<&Named<L>>
         ensures { option_copied result ≡ link_at self.now.links number }
     {
-        self.links.get(number as usize)?.as_ref()
+        self.links.get(number)
     }
 }

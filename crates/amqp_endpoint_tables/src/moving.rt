@@ -1,25 +1,19 @@
 //! How links come and go, by their numbers and their names.
-ghost use Rattle.std.specs.Prelude.{◌≡◌, ◌+◌, ◌<◌, ◌≤◌, ◌++◌, [], ◌∷◌, IsSome, IfNone, OnSome, None, Some, length};
+ghost use Rattle.std.specs.Prelude.{◌≡◌, ◌+◌, ◌^◌, ◌<◌, ◌≤◌, ◌++◌, [], ◌∷◌, IfNone, OnSome, None, Some, length};
 ghost use Rattle.std.specs.Prelude.{slice_set};
-ghost use Rattle.std.specs.Borrow.{Lends};
-ghost use Rattle.std.specs.Vec.{vec_len, vec_capacity};
 ghost use Rattle.indexmap.specs.IndexMap.{spare};
-ghost use types.Logic.{sem};
-ghost use Rattle.std.specs.contracts.option.Option.{the_row as option_row};
-ghost use Rattle.amqp_endpoint_tables.specs.contracts.link_place.Named.{the_row as named_row};
-ghost use Rattle.amqp_endpoint_tables.specs.declared.link_place.LinkPlace.TheVariants.{AtRest};
-ghost use Rattle.amqp_endpoint_tables.specs.LinkState.{AreApart, IsNewName, Names, link_at, moved, place_of, put_in};
-ghost use Rattle.amqp_endpoint_tables.specs.LinkState.{rest_of};
+ghost use Rattle.amqp_endpoint_tables.specs.LinkState.{AreApart, IsNewName, Names, link_at, place_of, put_in};
 ghost use Rattle.amqp_endpoint_tables.specs.Inside.{AreNamed, PutsUnder, TakesAway};
 
 use crate::link_place::{LinkPlace, Named, NewName};
+use crate::numbered::Numbered;
 use indexmap::IndexMap;
 use serde_amqp_types::Text;
 use std::mem;
 
 /// The number of the link that has this name.
 pub(crate) fn number_named<L: Drop>(
-    links: &Vec<Option<Named<L>>>,
+    links: &Numbered<Named<L>>,
     numbers: &IndexMap<Text, u64>,
     name: &Text,
 ) -> Option<u64>
@@ -35,25 +29,25 @@ pub(crate) fn number_named<L: Drop>(
 
 /// Enters a link, whose name no other has.
 pub(crate) fn enter<L: Drop>(
-    links: &mut Vec<Option<Named<L>>>,
+    links: &mut Numbered<Named<L>>,
     numbers: &mut IndexMap<Text, u64>,
     name: NewName,
     place: LinkPlace<L>,
 )
     requires named { AreNamed links.old.items numbers.old.entries }
     requires unused { IsNewName links.old.items name }
-    requires room { vec_len links.old < vec_capacity links.old }
+    requires next { length links.old.items + 1 < 2 ^ 64 }
+    requires room { 0 < links.old.spare }
     requires spare { 0 < spare numbers.old }
     ensures links { links.new.items ≡ links.old.items
         ++ Some (record { name = name; place = place }) ∷ [] }
     ensures named { AreNamed links.new.items numbers.new.entries }
-    ensures len { vec_len links.new ≡ vec_len links.old + 1 }
-    ensures capacity { vec_capacity links.new ≡ vec_capacity links.old }
+    ensures room { links.old.spare ≤ links.new.spare + 1 }
     ensures spare { spare numbers.old ≤ spare numbers.new + 1 }
 {
     let NewName { own, key } = name;
-    put_name(numbers, key, links.len() as u64);
-    links.push_reserved(Some(Named { name: own, place }));
+    put_name(numbers, key, links.next());
+    links.push(Named { name: own, place });
 }
 
 /// The number stands under the name, for which there is room.
@@ -78,23 +72,22 @@ fn forget_name(numbers: &mut IndexMap<Text, u64>, name: &Text)
 
 /// Puts a link in another place, and hands out the one that it had, if it isn't closed.
 pub(crate) fn put<L: Drop>(
-    links: &mut Vec<Option<Named<L>>>,
+    links: &mut Numbered<Named<L>>,
     number: u64,
     place: LinkPlace<L>,
 ) -> Option<LinkPlace<L>>
     ensures value { result ≡ place_of (link_at links.old.items number) }
     ensures put { OnSome result (links.new.items ≡ put_in links.old.items number place) }
     ensures none { IfNone result (links.new.items ≡ links.old.items) }
-    ensures len { vec_len links.new ≡ vec_len links.old }
-    ensures capacity { vec_capacity links.new ≡ vec_capacity links.old }
+    ensures room { links.new.spare ≡ links.old.spare }
 {
-    let link = links.get_mut(number as usize)?.as_mut()?;
+    let link = links.get_mut(number)?;
     Some(mem::replace(&mut link.place, place))
 }
 
 /// Takes the link with this number out, with its name, and hands out where it was, if it isn't closed.
 pub(crate) fn take_out<L: Drop>(
-    links: &mut Vec<Option<Named<L>>>,
+    links: &mut Numbered<Named<L>>,
     numbers: &mut IndexMap<Text, u64>,
     number: u64,
 ) -> Option<LinkPlace<L>>
@@ -103,35 +96,10 @@ pub(crate) fn take_out<L: Drop>(
     ensures taken { OnSome result (links.new.items ≡ slice_set links.old.items number None) }
     ensures none { IfNone result (links.new.items ≡ links.old.items) }
     ensures named { AreNamed links.new.items numbers.new.entries }
-    ensures len { vec_len links.new ≡ vec_len links.old }
-    ensures capacity { vec_capacity links.new ≡ vec_capacity links.old }
+    ensures room { links.old.spare ≤ links.new.spare }
     ensures spare { spare numbers.old ≤ spare numbers.new }
 {
-    let Named { name, place } = take_link(links, number)?;
+    let Named { name, place } = links.take(number)?;
     forget_name(numbers, &name);
     Some(place)
-}
-
-/// Takes the link with this number out, if it isn't closed.
-fn take_link<L: Drop>(links: &mut Vec<Option<Named<L>>>, number: u64) -> Option<Named<L>>
-    ensures value { result ≡ link_at links.old.items number }
-    ensures taken { OnSome result (links.new.items ≡ slice_set links.old.items number None) }
-    ensures none { IfNone result (links.new.items ≡ links.old.items) }
-    ensures len { vec_len links.new ≡ vec_len links.old }
-    ensures capacity { vec_capacity links.new ≡ vec_capacity links.old }
-{
-    links.get_mut(number as usize)?.take()
-}
-
-/// The link in this slot, which is at rest, to be changed.
-pub(crate) fn rest_in<L: Drop>(slot: &mut Option<Named<L>>) -> &mut L
-    requires { IsSome (rest_of (place_of slot.old)) }
-    ensures* lends { sem 𝓛 (Lends (option_row (named_row L.row)) L.row slot.entry result
-        (λ link. moved slot.old (AtRest link))) }
-    ensures value { rest_of (place_of slot.old) ≡ Some result.now }
-{
-    match slot {
-        Some(link) => link.at_rest_mut(),
-        None => unreachable!(),
-    }
 }

@@ -11,6 +11,6 @@ returns-clause-named g c =
     let had : name_in c.args.links.now.items c.args.number ≡ Some c.in_ok-name.name = search rules in
     let more = c.forget_name.new.numbers.entries in
     let away : TakesAway c.in_ok-name.name old more = search rules in
-    let gone : c.take_link.new.links.items ≡ slice_set c.args.links.now.items c.args.number None = search rules in
+    let gone : c.take.new.self.items ≡ slice_set c.args.links.now.items c.args.number None = search rules in
     subst (λ (ls : List (Option (Named _))). AreNamed ls more) (sym gone)
     (taken-named c.args.links.now.items old c.requires.named c.args.number c.in_ok-name.name more had away)
