@@ -25,7 +25,7 @@ use Rattle.amqp_endpoint_links.specs.declared.links.AskedLink.{AskedLink}
 use Rattle.amqp_endpoint_links.specs.declared.numbered.Numbered.{Numbered}
 use Rattle.amqp_endpoint_attached.proofs.Owned.{given, given_by, owned, owned_by, some_is}
 use Rattle.amqp_endpoint_attached.proofs.Taking.{planned}
-use Rattle.amqp_endpoint_attached.specs.Answering.{Answers, Exchanges, IsPrepared, IsReady, SaysAll, Takes, TakesAll}
+use Rattle.amqp_endpoint_attached.specs.Answering.{Answers, Exchanges, IsPrepared, IsReady, SaysAll, Takes, TakesAll, said_by}
 use Rattle.amqp_endpoint_attached.specs.Attaching.{Attaches, SendsIn}
 use Rattle.amqp_endpoint_attached.specs.Linked.{Linked, LinksIn, gives}
 use Rattle.amqp_endpoint_attached.specs.Links.{Announces, attach_frame, attach_sent, is_at_rest, offered, with_number}
@@ -102,10 +102,12 @@ attached old new given_to out room out_new limit number link handle attach annou
 exchanged : (limit : ℕ) (old new : End) (asked : AskedLink) (handle : OutputHandle) (ready : PreparedAnswer)
     (attaching : Attaching) → is_at_rest (state_of old) ≡ true → IsReady limit old asked handle ready
     → TakesAll old handle ready.taken ready.attach.incomplete_unsettled attaching new
-    → Exchanges limit old asked handle attaching ready.attach new
+    → Exchanges limit old asked handle (said_by ready.attach.incomplete_unsettled attaching) ready.attach new
 exchanged limit old new asked handle ready attaching rest is takes =
     record {
       taken = carried_out old ready.taken;
+      left = attaching;
+      says = refl;
       takes =
           subst (λ (a : Attaching). Takes old asked.attach a (carried_out old ready.taken)) (sym takes.left)
           (planned old asked.attach ready.taken rest is.planned).takes;

@@ -1,5 +1,5 @@
 -- A link attaches that answers one that the peer asks for (part 2, 2.6.3).
-use Rattle.std.specs.Prelude.{◌≡◌, ℕ, ◌<◌, Bool, List, [], ◌∷◌, ◌++◌, Option, Some, None, option_map, Ok}
+use Rattle.std.specs.Prelude.{◌≡◌, ℕ, ◌<◌, Bool, true, List, [], ◌∷◌, ◌++◌, Option, Some, None, option_map, Ok}
 use Rattle.std.specs.Prelude.{IsSome}
 use Rattle.std.specs.FinMap as map
 use Rattle.amqp_session_types.specs.declared.handles.InputHandle.{InputHandle}
@@ -16,6 +16,8 @@ use Rattle.amqp_link.specs.Preparing.{attach_planned, carried_out, left_by}
 use Rattle.amqp_link.specs.declared.end.End.{End}
 use Rattle.amqp_link.specs.declared.preparing.PreparedAttach.{PreparedAttach}
 use Rattle.amqp_link.specs.declared.relay.AttachTold.{AttachTold}
+use Rattle.amqp_link_base.specs.declared.exchange.AttachExchange.{AttachExchange}
+use Rattle.amqp_link_base.specs.declared.exchange.AttachExchange.TheVariants.{IncompleteUnsettled, Resume}
 use Rattle.amqp_link_sender.specs.declared.attaching.Attaching.{Attaching}
 use Rattle.amqp_endpoint_links.specs.declared.links.AskedLink.{AskedLink}
 use Rattle.amqp_endpoint_links.specs.declared.numbered.Numbered.{Numbered}
@@ -64,12 +66,23 @@ pub record Takes (old : End) (attach : Attach) (attaching : Attaching) (new : En
   pub takes : attaches old attach (Ok told) new
   pub accepts : outcome told ≡ Ok attaching
 
+-- what is told of an exchange: where deliveries go on, and the own Attach lists only a part of those that there are, it
+-- is told as incomplete (part 2, 2.7.3)
+abbrev pub told_of : Bool → AttachExchange → AttachExchange
+told_of true Resume = IncompleteUnsettled
+told_of incomplete exchange = exchange
+
+abbrev pub said_by : Bool → Attaching → Attaching
+said_by incomplete left = record left { exchange = told_of incomplete left.exchange }
+
 -- a link answers the asked one: it takes the peer's Attach, its own is written of it as it was before, and sent under
--- this handle
-pub record Exchanges (limit : ℕ) (old : End) (asked : AskedLink) (handle : OutputHandle) (attaching : Attaching)
+-- this handle; this is told of what is left to be done
+pub record Exchanges (limit : ℕ) (old : End) (asked : AskedLink) (handle : OutputHandle) (told : Attaching)
     (attach : Attach) (new : End) : Type 0 where
   pub taken : End
-  pub takes : Takes old asked.attach attaching taken
+  pub left : Attaching
+  pub takes : Takes old asked.attach left taken
+  pub says : told ≡ said_by attach.incomplete_unsettled left
   pub announces : Announces limit old handle attach
   pub sent : attach_sent (with_handle taken handle) attach.incomplete_unsettled ≡ Some new
 
@@ -122,7 +135,7 @@ pub record SaysAll (old : LinksIn) (out : List SessionFrame) (handle : OutputHan
   pub takes : TakesIn old handle ready.taken ready.attach.incomplete_unsettled attaching new
   pub told : answered ≡ record {
     handle = handle;
-    exchange = attaching.exchange;
+    exchange = told_of ready.attach.incomplete_unsettled attaching.exchange;
     aborts = attaching.aborts;
     kept = ready.kept;
   }

@@ -8,6 +8,7 @@ ghost use Rattle.amqp_link_base.specs.State.{after_send_attach};
 ghost use Rattle.amqp_link.specs.Ends.{state_of};
 ghost use Rattle.amqp_link.specs.Preparing.{IsFor, carried_out, left_by};
 ghost use Rattle.amqp_endpoint_attached.specs.Answering.{Answers, IsPrepared, IsTakenSo, SaysAll, left_to_do};
+ghost use Rattle.amqp_endpoint_attached.specs.Answering.{said_by, told_of};
 ghost use Rattle.amqp_endpoint_attached.specs.Linked.{gives};
 ghost use Rattle.amqp_endpoint_attached.specs.Links.{is_at_rest, with_number};
 ghost use Rattle.amqp_endpoint_attached.specs.Refusals.{RefusesHandle};
@@ -32,7 +33,8 @@ use std::collections::VecDeque;
 pub struct Answered {
     /// The own handle that it got.
     pub handle: OutputHandle,
-    /// What the two Attach leave to be done for unsettled deliveries (part 2, 2.6.13).
+    /// What the two Attach leave to be done for unsettled deliveries (part 2, 2.6.13): incomplete also where deliveries go on
+    /// and its own Attach lists only a part of them.
     pub exchange: AttachExchange,
     /// The deliveries that a sending link gives up, in the order in which their transfers go; none of a receiving link.
     pub aborts: Array<Abort>,
@@ -63,7 +65,8 @@ pub fn answer(
     requires room { deque_len out.old < deque_capacity out.old }
     ensures ok { (limit : ℕ) → IsPrepared limit session.old link input ready → IfOk result (λ answered.
         Answers session.old out.old.items limit number link input answered session.new out.new.items) }
-    ensures left { IfOk result (λ answered. left_to_do answered ≡ left_by ready.taken) }
+    ensures left { IfOk result (λ answered.
+        left_to_do answered ≡ said_by ready.attach.incomplete_unsettled (left_by ready.taken)) }
     ensures room { deque_len out.new ≤ deque_len out.old + 1 }
     ensures capacity { deque_capacity out.new ≡ deque_capacity out.old }
     ensures err { IfErr result (λ refused.
@@ -131,8 +134,18 @@ fn hand_out(
     out.push_back_reserved(attach_frame(session, attach));
     Answered {
         handle,
-        exchange,
+        exchange: told_of(exchange, incomplete),
         aborts,
         kept,
+    }
+}
+
+/// What is told of an exchange by a link whose own Attach lists only a part of its deliveries, or all.
+fn told_of(exchange: AttachExchange, incomplete: bool) -> AttachExchange
+    ensures { result ≡ told_of incomplete exchange }
+{
+    match (incomplete, exchange) {
+        (true, AttachExchange::Resume) => AttachExchange::IncompleteUnsettled,
+        (_, exchange) => exchange,
     }
 }

@@ -32,7 +32,7 @@ use Rattle.amqp_endpoint_links.specs.declared.numbered.Numbered.{Numbered}
 use Rattle.amqp_endpoint_model.specs.State.{error_of}
 use Rattle.amqp_endpoint_model.specs.Step.{not_allowed}
 use Rattle.amqp_endpoint_model.specs.declared.event.Event.{Event}
-use Rattle.amqp_endpoint_attached.specs.Answering.{Answers, IsPrepared, IsTakenSo, RefusesAnswer, left_to_do, plain}
+use Rattle.amqp_endpoint_attached.specs.Answering.{Answers, IsPrepared, IsTakenSo, RefusesAnswer, left_to_do, plain, said_by}
 use Rattle.amqp_endpoint_attached.specs.Linked.{Linked, LinksIn, end_at, gives}
 use Rattle.amqp_endpoint_attached.specs.Links.{is_at_rest, offered, with_number}
 use Rattle.amqp_endpoint_attached.specs.Refusals.{RefusesHandle}
@@ -291,7 +291,7 @@ module _ (limit : ℕ) (before ready mid : Linked) (link : End) (input : InputHa
 
   -- it goes on by what the peer's Attach leaves to be done
   module _ (after : Linked) (placed : Placed) (out_new : List SessionFrame)
-      (left : left_to_do answered ≡ left_by made.prepared.taken) (numbered : placed.link ≡ number)
+      (left : left_to_do answered ≡ said_by made.prepared.attach.incomplete_unsettled (left_by made.prepared.taken)) (numbered : placed.link ≡ number)
       (holds : placed.session ≡ own.session) (handled : placed.handle ≡ answered.handle)
       (does : (l : ℕ) (aborts : List Abort) (ons : List PreparedSendOn)
       → IsReadyWith l aborts ons own made.behind.ready

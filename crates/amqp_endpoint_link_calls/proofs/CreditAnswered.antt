@@ -252,7 +252,7 @@ module _ (limit : ℕ) (link : End) (asked : AskedLink) (handle : OutputHandle) 
   credit-answered None named on ready =
       none-credit (length on.sending.batches.items) becomes (ap (λ (l : List _). length l) ready.cut.0)
   credit-answered (Some flow) named on ready =
-      answered (length on.sending.batches.items) asked.attach handle own.incomplete_unsettled attaching becomes plan flow
+      answered (length on.sending.batches.items) asked.attach handle own.incomplete_unsettled exchanges.left becomes plan flow
       link (exchanges.takes).told exchanges.taken rest (exchanges.takes).takes (exchanges.takes).accepts exchanges.sent
       (cut-few limit named (sends_on_behind link plan flow) on.sending.batches.items on.sending.all_fit ready.cut)
 

@@ -6,7 +6,7 @@ use Rattle.amqp_link.specs.Ends.{state_of}
 use Rattle.amqp_link.specs.Preparing.{IsFor, carried_out}
 use Rattle.amqp_link.specs.declared.end.End.{End}
 use Rattle.amqp_endpoint_links.specs.declared.numbered.Numbered.{Numbered}
-use Rattle.amqp_endpoint_attached.specs.Answering.{left_to_do}
+use Rattle.amqp_endpoint_attached.specs.Answering.{left_to_do, said_by}
 use Rattle.amqp_endpoint_attached.specs.Linked.{Linked, gives}
 use Rattle.amqp_endpoint_attached.specs.Links.{with_number}
 use Rattle.amqp_endpoint_attached.specs.declared.answering.Answered.{Answered}
@@ -49,4 +49,6 @@ returns-in-Ok-clause-ok c = λ limit prepared.
 
 pub returns-in-Ok-clause-left : goal.returns-in-Ok-clause-left
 returns-in-Ok-clause-left c =
-    let says = c.hand_out.ensures.says in ap (λ (a : Answered). left_to_do a) says.told ∙ (says.takes).takes.left
+    let says = c.hand_out.ensures.says in
+    ap (λ (a : Answered). left_to_do a) says.told
+    ∙ ap (said_by c.args.ready.attach.incomplete_unsettled) (says.takes).takes.left
