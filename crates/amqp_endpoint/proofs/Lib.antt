@@ -1,5 +1,6 @@
 mod Related
 mod Heard
+mod Arrived
 mod AttachedLinks
 pub mod Messages
 pub mod Writing

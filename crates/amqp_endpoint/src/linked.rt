@@ -6,16 +6,18 @@ use amqp_endpoint_conversation::Conversation;
 use amqp_endpoint_link_calls as calls;
 use amqp_endpoint_link_calls as messages;
 use amqp_endpoint_link_calls::Again;
+use amqp_endpoint_link_hearing::hear_at_once;
 use amqp_endpoint_linking as linking;
 use amqp_endpoint_links::Numbered;
 use amqp_endpoint_model::{
-    Attaching, Disposal, EndpointError, Event, LinkSettings, Sending, Sent, SessionRelay,
+    Arrival, Attaching, Disposal, EndpointError, Event, LinkSettings, Sending, Sent, SessionRelay,
 };
 use amqp_endpoint_tables::{Links, Sessions};
 use amqp_link::LinkEnd;
 use amqp_session_frames::{Connection, FrameBody};
-use amqp_session_performatives::SessionFrame;
+use amqp_session_performatives::{SessionFrame, Transfer};
 use amqp_session_types::{IncomingChannel, TryEndError};
+use bytes::Bytes;
 use std::alloc::{AllocError, Global};
 use std::collections::VecDeque;
 
@@ -97,6 +99,24 @@ impl SessionRelay for LinkedSessions {
             body,
             out,
             events,
+        )
+    }
+
+    fn takes_at_once(
+        &mut self,
+        _limit: u32,
+        channel: IncomingChannel,
+        transfer: &Transfer,
+        payload: &Bytes,
+        out: &mut VecDeque<SessionFrame>,
+    ) -> Option<Arrival> {
+        hear_at_once(
+            &mut self.talk,
+            &mut self.given,
+            channel,
+            transfer,
+            payload,
+            out,
         )
     }
 

@@ -1,3 +1,4 @@
+mod AtOnce
 mod Answering
 mod Conditions
 mod Hearings

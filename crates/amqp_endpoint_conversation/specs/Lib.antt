@@ -2,6 +2,7 @@ pub mod Beginning
 pub mod Ending
 pub mod Faults
 pub mod Hearing
+pub mod AtOnce
 pub mod Going
 pub mod Clearing
 pub mod Inside

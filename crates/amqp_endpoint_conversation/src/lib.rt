@@ -4,6 +4,7 @@
 //! where no session goes on nothing is handed out.
 #![tactic(auto)]
 
+mod at_once;
 mod beginning;
 mod calling;
 mod conversation;

@@ -1,5 +1,5 @@
 -- Laws of a feed: frame after frame, and how it ends.
-use Rattle.std.proofs.Common.{◌≡◌, ℕ, ◌+◌, ◌≤◌, ◌<◌, ◌⊎◌, inl, inr, List, [], ◌∷◌, ◌++◌, drop, length, Option, Some, None, Bool, true, false, refl, sym, ◌∙◌, ap, arith, subst, length-append, if◌then◌else◌}
+use Rattle.std.proofs.Common.{◌≡◌, ℕ, ◌+◌, ◌≤◌, ◌<◌, ◌⊎◌, inl, inr, List, [], ◌∷◌, ◌++◌, drop, length, Option, Some, None, Bool, true, false, refl, sym, ◌∙◌, ap, arith, subst, length-append, append-nil, append_assoc, if◌then◌else◌}
 use Rattle.amqp_session_frames.specs.declared.frame.Frame.{Frame}
 use Rattle.amqp_session_frames.specs.declared.frame.FrameBody.{FrameBody}
 use Rattle.amqp_session_frames.specs.declared.frame.FrameBody.TheVariants.{Empty, Open, Close}
@@ -16,7 +16,7 @@ use Rattle.amqp_endpoint_model.specs.State.{State, is_running}
 use Rattle.amqp_endpoint_model.specs.Step.{Breaks, BreaksGreeting, Greets, at_state, opened, FrontBarred, FrontRefused, Admits, AfterFault, TakesBody, TakesAll, Waits, Ends, EndsRunning, ReadsOn, condition_of}
 use Rattle.amqp_endpoint_model.proofs.Takings.{TakesAll-more}
 use Rattle.amqp_endpoint_core.proofs.ReadingLaws.{chosen, refuses_again}
-use Rattle.amqp_endpoint_core.specs.Reading.{EndsBy, GreetedOff, HeaderLeft, HeaderRefused, HeaderTaken, SoFar, TakesFront}
+use Rattle.amqp_endpoint_core.specs.Reading.{EndsBy, GreetedOff, HeaderLeft, HeaderRefused, HeaderTaken, SoFar, SoFarBehind, TakesFront, Tells}
 
 module _ {S : Type 0} where
   other : (b : Bool) (x y : State S) → b ≡ false → (if b then x else y) ≡ y
@@ -389,3 +389,59 @@ module _ {S : Type 0} (does : Relations S) where
       inr (inr (inr (none, is ∙ ap Some h.0, inl (subst P h.1 off))))
   greets_off old mid new bytes e events fault (inr h) none is off =
       refused_off old mid new (old.rest ++ bytes) e events fault h none is off
+
+-- ---- behind the events that were told before
+
+module _ {S : Type 0} (does : Relations S) where
+  -- nothing is told yet
+  pub behind_none : (start : State S) (before : List Event) → start.phase ≡ Running → SoFarBehind does start before before start
+  behind_none start before run =
+      record { events = []; is_so = so_far_none does start run; told = sym (append-nil before) }
+
+  -- what a frame tells stands behind it
+  pub behind_more : (start now : State S) (before between more behind : List Event) (new : State S)
+      → SoFarBehind does start before between now → is_running now.phase ≡ true → TakesFront does now more new
+      → behind ≡ between ++ more → SoFarBehind does start before behind new
+  behind_more start now before between more behind new x run t told =
+      record {
+        events = x.events ++ more;
+        is_so = so_far_more does start now x.events more (x.events ++ more) new x.is_so run t refl;
+        told = told ∙ ap (λ (l : List Event). l ++ more) x.told ∙ append_assoc before x.events more;
+      }
+
+  pub behind_waiting : (start now : State S) (before between behind : List Event) (new : State S)
+      → SoFarBehind does start before between now → is_running now.phase ≡ true
+      → Waits now.settings.max_frame_size now.rest → behind ≡ between → new ≡ now
+      → Tells (λ (told : List Event). ReadsOn does start start.rest told None new) before behind
+  behind_waiting start now before between behind new x run w told same =
+      record {
+        events = x.events;
+        is_so = ends_waiting does start now x.events x.events new x.is_so run w refl same;
+        told = told ∙ x.told;
+      }
+
+  pub behind_closed : (start now : State S) (before behind : List Event) → SoFarBehind does start before behind now
+      → is_running now.phase ≡ false → Tells (λ (told : List Event). ReadsOn does start start.rest told None now) before behind
+  behind_closed start now before behind x stopped =
+      record { events = x.events; is_so = ends_closed does start now x.events x.is_so stopped; told = x.told }
+
+  pub behind_fault : (start now : State S) (before between behind : List Event) (m new : State S) (e told : EndpointError)
+      → SoFarBehind does start before between now → is_running now.phase ≡ true
+      → FrontRefused does now now.rest e m.sessions → behind ≡ between
+      → m ≡ record now { rest = m.rest; sessions = m.sessions } → EndsBy does e told m new
+      → Tells (λ (events : List Event). ReadsOn does start start.rest events (Some told) new) before behind
+  behind_fault start now before between behind m new e told x run refused same cut ends =
+      record {
+        events = x.events;
+        is_so = ends_by_fault does start now x.events x.events m new e told x.is_so run refused refl cut ends;
+        told = same ∙ x.told;
+      }
+
+-- this is so of what is told, where that is
+pub told_where : {P Q : List Event → Type 0} → ((told : List Event) → P told → Q told) → {before behind : List Event}
+    → Tells P before behind → Tells Q before behind
+told_where so t = record { events = t.events; is_so = so t.events t.is_so; told = t.told }
+
+-- nothing is told
+pub told_nothing : {P : List Event → Type 0} (before : List Event) → P [] → Tells P before before
+told_nothing before so = record { events = []; is_so = so; told = sym (append-nil before) }

@@ -7,6 +7,7 @@ pub mod FeedLaws
 pub mod IdleLaws
 pub mod RunLaws
 pub mod SessionLaws
+pub mod ArrivalLaws
 pub mod WithinLaws
 pub mod CallLaws
 pub mod SessionCalls

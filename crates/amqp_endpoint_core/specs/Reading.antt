@@ -44,6 +44,12 @@ module _ {S : Type 0} (does : Relations S) where
   HeaderLeft old bytes e new =
       ((e ≡ Memory) × (new ≡ old)) ⊎ HeaderRefused (record old { rest = old.rest ++ bytes }) e new
 
+-- events are told of which this is so, behind those that were told before
+pub record Tells (IsSo : List Event → Type 0) (before behind : List Event) : Type 0 where
+  pub events : List Event
+  pub is_so : IsSo events
+  pub told : behind ≡ before ++ events
+
 -- why a whole piece is not read as a frame
 abbrev pub NotTaken : List ℕ → EndpointError → Type 0
 NotTaken piece Memory = Unit {0}
@@ -148,3 +154,7 @@ module _ {S : Type 0} (does : Relations S) where
     pub settings : mid.settings ≡ start.settings
     pub dropped : mid.rest ≡ []
     pub phase : (mid.phase ≡ Running) ⊎ (mid.phase ≡ Over)
+
+  -- the same, with what it told behind the events before
+  abbrev pub SoFarBehind : State S → List Event → List Event → State S → Type 0
+  SoFarBehind start before behind now = Tells (λ events. SoFar start events now) before behind

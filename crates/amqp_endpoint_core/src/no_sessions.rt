@@ -3,11 +3,12 @@ ghost use Rattle.std.specs.Prelude.{◌≡◌};
 ghost use Rattle.amqp_endpoint_core.specs.NoSessions.{session_refusal};
 
 use amqp_endpoint_model::{
-    Attaching, Disposal, EndpointError, Event, LinkSettings, Sending, Sent, SessionRelay,
+    Arrival, Attaching, Disposal, EndpointError, Event, LinkSettings, Sending, Sent, SessionRelay,
 };
 use amqp_session_frames::{Connection, FrameBody};
-use amqp_session_performatives::SessionFrame;
+use amqp_session_performatives::{SessionFrame, Transfer};
 use amqp_session_types::{ConnectionError, IncomingChannel, TryEndError};
+use bytes::Bytes;
 use std::alloc::{AllocError, Global};
 use std::collections::VecDeque;
 
@@ -52,6 +53,17 @@ impl SessionRelay for NoSessions {
         _events: &mut Vec<Event>,
     ) -> Result<(), EndpointError> {
         Err(EndpointError::Connection(refusal(&body)))
+    }
+
+    fn takes_at_once(
+        &mut self,
+        _limit: u32,
+        _channel: IncomingChannel,
+        _transfer: &Transfer,
+        _payload: &Bytes,
+        _out: &mut VecDeque<SessionFrame>,
+    ) -> Option<Arrival> {
+        None
     }
 
     fn begin(

@@ -24,6 +24,7 @@ mod Stepped
 mod Transfers
 mod Transferred
 mod Messages
+mod Arrivals
 pub mod Inside
 pub mod OnBehind
 pub mod FlowHeard

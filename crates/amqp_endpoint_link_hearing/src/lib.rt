@@ -5,6 +5,7 @@
 //! Saying; and which links are closed by a Disposition that can't be echoed, Unechoed.
 #![tactic(auto)]
 
+mod at_once;
 mod attaching;
 mod closing;
 mod detaching;
@@ -19,6 +20,7 @@ mod refusing;
 mod transferring;
 mod unechoed;
 
+pub use at_once::hear_at_once;
 pub use attaching::hear_attach;
 pub use detaching::hear_detach;
 pub use disposing::hear_disposition;

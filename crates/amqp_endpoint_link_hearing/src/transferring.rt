@@ -320,7 +320,7 @@ fn condition_of(error: ReceiverTransferError) -> Condition
 }
 
 /// The session's Flow is handed out, where one is due. There is room for it.
-fn hand_out(flow: Option<SessionFrame>, out: &mut VecDeque<SessionFrame>)
+pub(crate) fn hand_out(flow: Option<SessionFrame>, out: &mut VecDeque<SessionFrame>)
     requires spare { deque_len out.old < deque_capacity out.old }
     ensures handed { out.new.items ≡ out.old.items ++ option_to_list flow }
     ensures read { IfSome flow IsRead }

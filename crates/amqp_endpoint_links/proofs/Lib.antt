@@ -1,3 +1,4 @@
+pub mod AtOnce
 pub mod Histories
 pub mod Beginnings
 pub mod Routing

@@ -1,5 +1,6 @@
 -- A link with the number by which its endpoint names it.
-use Rattle.std.specs.Prelude.{◌≡◌, List, [], ◌∷◌}
+use Rattle.std.specs.Prelude.{◌≡◌, ℕ, List, [], ◌∷◌}
+use Rattle.amqp_session_performatives.specs.declared.transfer.Transfer.{Transfer}
 use Rattle.amqp_session_core.specs.Relay.{LinkAct, Relations, Attaches, Flows, Transfers, Disposes, Detaches}
 use Rattle.amqp_session_core.specs.Relay.{SendsBatch, SendsFrame, SendsDisposition, Changes}
 use Rattle.amqp_endpoint_links.specs.declared.numbered.Numbered.{Numbered}
@@ -8,6 +9,10 @@ module _ {R : Type 0} where
   -- what is done to a link, and its number stays
   abbrev pub keeping : (R → R → Type 0) → Numbered R → Numbered R → Type 0
   keeping does old new = does old.link new.link × (new.number ≡ old.number)
+
+  -- the message that a transfer brought to the link bears a number of its own, and the link's number stays
+  abbrev pub naming : (R → Transfer → ℕ → R) → Numbered R → Transfer → ℕ → Numbered R
+  naming names old t message = record old { link = names old.link t message }
 
 module _ {R A T D : Type 0} where
   -- a link with its number takes each frame as the link does

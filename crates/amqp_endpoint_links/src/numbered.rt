@@ -1,5 +1,5 @@
 //! A link that bears the number by which its endpoint names it.
-ghost use Rattle.amqp_endpoint_links.specs.Numbering.{numbered};
+ghost use Rattle.amqp_endpoint_links.specs.Numbering.{naming, numbered};
 
 use amqp_session_core::{LinkRelay, RelayError, TransferAnswer};
 use amqp_session_performatives::{Attach, Detach, LinkFlow, Transfer};
@@ -20,7 +20,7 @@ pub struct Numbered<R> {
 }
 
 impl<R: LinkRelay> LinkRelay for Numbered<R> {
-    ghost use Rattle.amqp_endpoint_links.specs.Numbering.{numbered};
+    ghost use Rattle.amqp_endpoint_links.specs.Numbering.{naming, numbered};
 
     type Attached = R::Attached;
 
@@ -29,6 +29,10 @@ impl<R: LinkRelay> LinkRelay for Numbered<R> {
     type Detached = R::Detached;
 
     ghost gives = { numbered R.gives };
+
+    ghost tells = { R.tells };
+
+    ghost names = { naming R.names };
 
     fn on_incoming_attach(
         &mut self,
@@ -53,6 +57,13 @@ impl<R: LinkRelay> LinkRelay for Numbered<R> {
         payload: Bytes,
     ) -> Result<TransferAnswer<R::Transferred>, RelayError> {
         self.link.on_incoming_transfer(alloc, transfer, payload)
+    }
+
+    fn takes_at_once(&mut self, transfer: &Transfer, payload: &Bytes, message: u64) -> bool {
+        if !self.link.takes_at_once(transfer, payload, message) {
+            return false;
+        }
+        true
     }
 
     fn on_incoming_disposition(

@@ -6,3 +6,4 @@ pub mod State
 pub mod Step
 pub mod History
 pub mod Defaults
+pub mod Arriving

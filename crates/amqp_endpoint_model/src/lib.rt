@@ -3,6 +3,7 @@
 #![tactic(auto)]
 
 mod answer;
+mod arrival;
 mod call;
 mod error;
 mod event;
@@ -13,6 +14,7 @@ mod relay;
 mod settings;
 
 pub use answer::{Answer, Attaching, Fed, Reply, Sent};
+pub use arrival::Arrival;
 pub use call::{Call, Disposal, Sending};
 pub use error::EndpointError;
 pub use event::{

@@ -1,9 +1,12 @@
 //! What the sessions of an endpoint are to its connection.
-ghost use Rattle.std.specs.Prelude.{◌≡◌, ◌≤◌, ◌^◌, ℕ, min, [], length, unwrap_or, IfErr, IfOk, OnErr, OnOk};
+ghost use Rattle.std.specs.Prelude.{◌≡◌, ◌≤◌, ◌^◌, ◌++◌, ℕ, List, min, [], ◌∷◌, length, unwrap_or};
+ghost use Rattle.std.specs.Prelude.{IfErr, IfNone, IfOk, IfSome, OnErr, OnOk, OnSome};
 ghost use Rattle.std.specs.Borrow.{Lends};
 ghost use types.Logic.{sem};
 ghost use Rattle.amqp_session_frames.specs.State as channels;
+ghost use Rattle.amqp_session_frames.specs.declared.frame.FrameBody.TheVariants as body;
 ghost use Rattle.amqp_session_frames.specs.contracts.connection.Connection.{the_row as connection_row};
+ghost use Rattle.amqp_endpoint_model.specs.Arriving.{SaysDelivery, arrived};
 ghost use Rattle.amqp_endpoint_model.specs.Relay.{Called, IsOfSession, Refused, StandsStill, Taken};
 ghost use Rattle.amqp_endpoint_model.specs.Said.{attaching, count, credit_is, done, link_closed, message_sent};
 ghost use Rattle.amqp_endpoint_model.specs.Said.{session_begun};
@@ -14,15 +17,18 @@ ghost use Rattle.amqp_endpoint_model.specs.declared.call.Call.TheVariants.{End, 
 ghost use Rattle.amqp_endpoint_model.specs.declared.call.Call.TheVariants.{Dispose, DisposeAll, Resume, Send, Waiting};
 ghost use Rattle.amqp_endpoint_model.specs.declared.call.Sending.{Sending};
 ghost use Rattle.amqp_endpoint_model.specs.declared.error.EndpointError.TheVariants.{Memory};
+ghost use Rattle.amqp_endpoint_model.specs.declared.event.Event.{Event};
 
 use crate::LinkSettings;
 use crate::answer::{Attaching, Sent};
+use crate::arrival::Arrival;
 use crate::call::{Disposal, Sending};
 use crate::error::EndpointError;
 use crate::event::Event;
 use amqp_session_frames::{Connection, FrameBody};
-use amqp_session_performatives::SessionFrame;
+use amqp_session_performatives::{SessionFrame, Transfer};
 use amqp_session_types::{IncomingChannel, TryEndError};
+use bytes::Bytes;
 use std::alloc::{AllocError, Global};
 use std::collections::VecDeque;
 
@@ -93,6 +99,26 @@ pub trait SessionRelay: Drop {
         ensures err { IfErr result (λ e. Refused does self.old limit channel.0 body e self.new) }
         ensures kept { OnErr result ((out.new.items ≡ out.old.items)
             × (events.new.items ≡ events.old.items)) }
+        ensures within { does.within limit self.new }
+        ensures still { StandsStill (does.connection self.old) (does.connection self.new) };
+
+    /// Takes at once a Transfer that brings a whole message, as `on_incoming` takes it: its message is to be told then,
+    /// behind all that was told. Where the answer is None nothing changes, and `on_incoming` takes the Transfer.
+    fn takes_at_once(
+        &mut self,
+        limit: u32,
+        channel: IncomingChannel,
+        transfer: &Transfer,
+        payload: &Bytes,
+        out: &mut VecDeque<SessionFrame>,
+    ) -> Option<Arrival>
+        requires least { 512 ≤ limit }
+        requires waiting { does.within limit self.old }
+        ensures says { OnSome result (SaysDelivery transfer.now) }
+        ensures taken { IfSome result (λ it. (told : List Event) → Taken does self.old limit channel.0
+            (body.Transfer transfer.now payload.now) out.old.items told self.new out.new.items
+            (told ++ arrived it transfer.now payload.now ∷ [])) }
+        ensures none { IfNone result ((self.new ≡ self.old) × (out.new.items ≡ out.old.items)) }
         ensures within { does.within limit self.new }
         ensures still { StandsStill (does.connection self.old) (does.connection self.new) };
 

@@ -5,3 +5,4 @@ pub mod Steps
 pub mod Histories
 pub mod Rows
 pub mod Ends
+pub mod AtOnce

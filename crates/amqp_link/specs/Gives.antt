@@ -1,5 +1,6 @@
 -- What the frames of the peer make of an end of a link, and what it tells of them: part 2, 2.6.3 to 2.6.14.
-use Rattle.std.specs.Prelude.{◌≡◌, ℕ, Bool, false, List, Option, None, Result, Ok, Err, alloc_error}
+use Rattle.std.specs.Prelude.{◌≡◌, ℕ, Bool, false, List, [], Option, None, Result, Ok, Err, alloc_error}
+use Rattle.std.specs.Prelude.{unwrap_or}
 use Rattle.amqp_session_types.specs.declared.modes.Role.{Role}
 use Rattle.amqp_session_types.specs.declared.modes.Role.TheVariants as role
 use Rattle.amqp_session_states.specs.declared.delivery_state.DeliveryState.{DeliveryState}
@@ -13,19 +14,22 @@ use Rattle.amqp_session_core.specs.declared.relay.RelayError.{RelayError}
 use Rattle.amqp_session_core.specs.declared.relay.RelayError.TheVariants.{UnattachedHandle, TransferFrameToSender}
 use Rattle.amqp_session_core.specs.declared.relay.RelayError.TheVariants.{Memory}
 use Rattle.amqp_session_core.specs.declared.relay.TransferAnswer.{TransferAnswer}
+use Rattle.amqp_link_base.specs.Said.{begun}
 use Rattle.amqp_link_base.specs.declared.detached.Detached.{Detached}
 use Rattle.amqp_link_receiver.specs.declared.answer.Answer.{Answer}
 use Rattle.amqp_link_receiver.specs.declared.answer.Registering.{Registering}
 use Rattle.amqp_link_receiver.specs.declared.answer.Registering.TheVariants.{Unchanged, Unsettled, Settled}
 use Rattle.amqp_link_receiver.specs.declared.answer.Told.{Told}
-use Rattle.amqp_link_receiver.specs.declared.answer.Told.TheVariants.{Dropped}
+use Rattle.amqp_link_receiver.specs.declared.answer.Told.TheVariants.{Dropped, Message}
 use Rattle.amqp_link_sender.specs.Attaching as sender_attaching
 use Rattle.amqp_link_sender.specs.Dispositions as sender_disposing
 use Rattle.amqp_link_sender.specs.Ending as sender_ending
 use Rattle.amqp_link_sender.specs.declared.ending.DetachRefusal.TheVariants as refusal
 use Rattle.amqp_link_receiver.specs.Attaching as receiver_attaching
+use Rattle.amqp_link_receiver.specs.Disposing.{message_numbered}
 use Rattle.amqp_link_receiver.specs.Ending as receiver_ending
 use Rattle.amqp_link_receiver.specs.Incoming as receiver_incoming
+use Rattle.amqp_link_receiver.specs.Readings.{message_said}
 use Rattle.amqp_link_receiver.specs.State.{ReceiverState}
 use Rattle.amqp_link.specs.declared.end.End.{End}
 use Rattle.amqp_link.specs.declared.end.End.TheVariants.{Sender, Receiver}
@@ -88,6 +92,16 @@ transfers_at Apart old transfer payload told new = (told ≡ Err UnattachedHandl
 
 abbrev pub transfers : End → Transfer → List ℕ → Result (TransferAnswer Told) RelayError → End → Type 0
 transfers old transfer payload told new = transfers_at (standing_of (state_of old)) old transfer payload told new
+
+-- what is told of a transfer that brings a whole message
+abbrev pub tells : Transfer → List ℕ → Told
+tells t payload = Message (message_said (begun t payload))
+
+-- the message that a transfer brought to a receiving link bears this number of its owner's from now on; none comes to a
+-- sending one
+abbrev pub names : End → Transfer → ℕ → End
+names (Receiver r) t message = Receiver (message_numbered r (unwrap_or t.delivery_tag []) message)
+names (Sender s) t message = Sender s
 
 -- a disposition of the peer reaches the end of the other role
 abbrev pub disposes : End → List ℕ → Role → Bool → Option DeliveryState → Bool → End → Type 0

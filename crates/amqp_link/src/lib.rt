@@ -4,6 +4,7 @@
 //! link.
 #![tactic(auto)]
 
+mod at_once;
 mod end;
 mod going_on;
 pub mod laws;
@@ -117,6 +118,7 @@ pub use amqp_link_unsettled::Failure;
 pub use amqp_link_unsettled::ListError;
 pub use amqp_link_unsettled::Listed;
 pub use amqp_link_unsettled::Noting;
+pub use amqp_link_unsettled::Numbered;
 pub use amqp_link_unsettled::Open;
 pub use amqp_link_unsettled::Resolution;
 pub use amqp_link_unsettled::ResumingDelivery;

@@ -2,6 +2,7 @@
 ghost use Rattle.std.specs.Prelude.{◌≡◌, Err};
 ghost use Rattle.amqp_link.specs.Gives.{answer_of, attaches, detaches, dropped, receives, registering_of};
 
+use crate::at_once::receives_at_once;
 use crate::end::{End, LinkEnd};
 use crate::standing::Standing;
 use amqp_link_base::Detached;
@@ -27,7 +28,7 @@ pub enum AttachTold {
 /// that isn't attached, and a transfer to one that sends. Where the own Detach was sent, transfers and Flows are dropped
 /// until the peer's comes.
 impl LinkRelay for LinkEnd {
-    ghost use Rattle.amqp_link.specs.Gives.{attaches, flows, transfers, disposes, detaches};
+    ghost use Rattle.amqp_link.specs.Gives.{attaches, flows, transfers, tells, names, disposes, detaches};
 
     type Attached = AttachTold;
 
@@ -42,6 +43,10 @@ impl LinkRelay for LinkEnd {
       disposes = disposes;
       detaches = detaches;
     } };
+
+    ghost tells = { tells };
+
+    ghost names = { names };
 
     fn on_incoming_attach(
         &mut self,
@@ -79,6 +84,13 @@ impl LinkRelay for LinkEnd {
             },
             Standing::Detaching => Ok(dropped()),
             Standing::Apart => Err(RelayError::UnattachedHandle),
+        }
+    }
+
+    fn takes_at_once(&mut self, transfer: &Transfer, payload: &Bytes, message: u64) -> bool {
+        match Standing::of(self.local_state()) {
+            Standing::Attached => receives_at_once(&mut self.end, transfer, payload, message),
+            _ => false,
         }
     }
 

@@ -15,3 +15,4 @@ pub mod Disposals
 pub mod Numbering
 pub mod Listed
 pub mod Notes
+pub mod AtOnce

@@ -1,5 +1,5 @@
 -- What is noted of an unsettled message that has come whole.
-use Rattle.std.specs.Prelude.{Some}
+use Rattle.std.specs.Prelude.{ℕ, Option, None, Some}
 use Rattle.amqp_link_receiver.specs.declared.entry.Entry.{Entry}
 use Rattle.amqp_link_receiver.specs.declared.entry.Entry.TheVariants.{Half, Whole}
 use Rattle.amqp_link_receiver.specs.declared.entry.Note.{Note}
@@ -16,3 +16,8 @@ message_noted m (Numbered attachment number mode) =
 abbrev pub noted_of : Entry → Note → Entry
 noted_of (Whole m) note = Whole (message_noted m note)
 noted_of (Half kept) note = Half kept
+
+-- the number that its owner gave a message
+abbrev pub entry_number : Entry → Option ℕ
+entry_number (Whole m) = m.message
+entry_number (Half kept) = None

@@ -1,11 +1,11 @@
 //! How a receiving end disposes of a delivery (part 2, 2.7.6).
-ghost use Rattle.std.specs.Prelude.{◌≡◌, if◌then◌else◌};
+ghost use Rattle.std.specs.Prelude.{◌≡◌, None, if◌then◌else◌};
 ghost use Rattle.amqp_link_receiver.specs.declared.disposable.DisposeRefusal.TheVariants.{AlreadyDisposed};
 ghost use Rattle.amqp_link_receiver.specs.Deliveries.{found};
 ghost use Rattle.amqp_link_receiver.specs.Disposals.{disposable, is_final, numbered_in, with_state};
 
 use crate::entry::{Entry, Note, WholeMessage};
-use amqp_link_unsettled::UnsettledMap;
+use amqp_link_unsettled::{Numbered, UnsettledMap};
 use amqp_session_states::DeliveryState;
 use amqp_session_types::{DeliveryTag, ReceiverSettleMode};
 use thiserror::Error;
@@ -31,6 +31,15 @@ pub struct Disposable {
     pub number: u32,
     /// How it is to be settled, where its transfer said it; else the link's mode says it (part 2, 2.8.3).
     pub rcv_settle_mode: Option<ReceiverSettleMode>,
+}
+
+/// It bears no number of its owner's.
+impl Numbered for Disposable {
+    ghost number_of = { λ _. None };
+
+    fn number(&self) -> Option<u64> {
+        None
+    }
 }
 
 /// What the delivery with a tag is disposed of by, in an attachment.

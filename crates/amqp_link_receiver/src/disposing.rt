@@ -103,7 +103,8 @@ impl ReceiverLink {
     }
 
     /// The tag of the unsettled message that bears this number of its owner's, of the first of them if more than one
-    /// does. It takes time by the unsettled deliveries before it.
+    /// does. Where messages bear numbers that rise as the messages came, it takes hardly more time for many deliveries
+    /// than for few.
     pub fn tag_of(&self, message: u64) -> Option<&DeliveryTag>
         ensures { option_copied result ≡ tag_of self.now.end.unsettled message }
     {

@@ -1,11 +1,11 @@
 //! What a receiving end keeps of an unsettled delivery (part 2, 2.6.12 and 2.6.13).
 ghost use Rattle.std.specs.Prelude.{◌≡◌, IfOk};
 ghost use Rattle.amqp_link_receiver.specs.Listed.{listed_as, whole_listed_as};
-ghost use Rattle.amqp_link_receiver.specs.Notes.{message_noted, noted_of};
+ghost use Rattle.amqp_link_receiver.specs.Notes.{entry_number, message_noted, noted_of};
 
 use crate::message_bytes::MessageBytes;
 use amqp_link_base::{Gathered, place};
-use amqp_link_unsettled::{Listed, Noting};
+use amqp_link_unsettled::{Listed, Noting, Numbered};
 use amqp_session_states::DeliveryState;
 use amqp_session_types::ReceiverSettleMode;
 use std::alloc::AllocError;
@@ -64,6 +64,18 @@ impl Noting for Entry {
         match self {
             Entry::Half(_) => {}
             Entry::Whole(message) => note_message(message, note),
+        }
+    }
+}
+
+/// A message that has come whole bears the number that the link's owner gave it.
+impl Numbered for Entry {
+    ghost number_of = { entry_number };
+
+    fn number(&self) -> Option<u64> {
+        match self {
+            Entry::Half(_) => None,
+            Entry::Whole(message) => message.message,
         }
     }
 }

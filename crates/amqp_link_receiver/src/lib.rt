@@ -1,12 +1,13 @@
 //! The receiving end of a link of AMQP 1.0: how it is attached and detached, the credit that it gives, the messages
 //! that come in by it, of one transfer or several, those that are resumed, and how they are disposed of (part 2, 2.6).
 //!
-//! What each call of a link does says specs/: State, Attaching, Ending, Flowing, Incoming, Foreseen, Disposing; what it
+//! What each call of a link does says specs/: State, Attaching, Ending, Flowing, Incoming, AtOnce, Foreseen, Disposing; what it
 //! does with transfers and unsettled deliveries, those of its `ReceivingEnd`.
 #![tactic(auto)]
 
 mod answer;
 mod arriving;
+mod at_once;
 mod attaching;
 mod attachment;
 mod completing;

@@ -1,20 +1,22 @@
 //! What a receiving end does with transfers, Flows and dispositions (part 2, 2.6.7 and 2.6.12 to 2.6.14).
-ghost use Rattle.std.specs.Prelude.{◌≡◌, ◌==◌, [], None, option_copied, if◌then◌else◌};
+ghost use Rattle.std.specs.Prelude.{◌≡◌, ◌<◌, ◌==◌, [], None, option_copied, if◌then◌else◌};
 ghost use Rattle.amqp_link_types.specs.declared.refusals.ReceiverTransferError.TheVariants.{TransferLimitExceeded};
 ghost use Rattle.amqp_link_receiver.specs.Receiving.{Answers, Receives, aborted, completed, disposed, ended};
 ghost use Rattle.amqp_link_receiver.specs.Receiving.{half_kept, kept_on, number_of, parted, refusal as refused_as};
 ghost use Rattle.amqp_link_receiver.specs.Receiving.{received, recounted, spent};
 ghost use Rattle.amqp_link_receiver.specs.Foreseen.{is_message};
+ghost use Rattle.amqp_link_receiver.specs.AtOnce.{ReceivesAtOnce};
 ghost use Rattle.amqp_link_receiver.specs.Steps.{Completes, part_answer};
 ghost use Rattle.amqp_link_receiver.specs.declared.answer.Registering.TheVariants.{Unchanged, Settled};
 ghost use Rattle.amqp_link_receiver.specs.declared.answer.Told.TheVariants.{Dropped, Refused};
 ghost use Rattle.amqp_link_receiver.specs.Deliveries.{delivery_of, found, with_last, with_part};
 ghost use Rattle.amqp_link_receiver.specs.Disposals.{disposable, disposed_with};
 ghost use Rattle.amqp_link_receiver.specs.Numbering.{message_named, tag_of};
-ghost use Rattle.amqp_link_base.specs.Flows.{draining, granted, receiver_answer, attached, receiver_flowed};
+ghost use Rattle.amqp_link_base.specs.Flows.{consumed, draining, granted, receiver_answer, attached, receiver_flowed};
 
 use crate::answer::{Answer, Registering, Told};
 use crate::arriving::Incoming;
+use crate::at_once::{enters, is_alone};
 use crate::attachment::Attachment;
 use crate::completing::{finish, take_whole};
 use crate::continuing::{begin, go_on};
@@ -92,6 +94,47 @@ impl ReceivingEnd {
             return self.keep_on(alloc, attachment, head, payload);
         }
         self.complete(alloc, attachment, head, payload)
+    }
+
+    /// Takes a transfer with its payload at once, and says whether it did, where the transfer brings a whole message, as
+    /// `on_incoming_transfer` takes it. A message that isn't settled bears this number of its owner's from then on.
+    /// Nothing changes where it didn't, as where something speaks against the message, and where there is no memory.
+    pub fn takes_at_once(
+        &mut self,
+        attachment: Attachment,
+        transfer: &Transfer,
+        payload: &Bytes,
+        message: u64,
+    ) -> bool
+        ensures { ReceivesAtOnce attachment self.old transfer.now payload.now message result
+            self.new }
+    {
+        if !is_alone(transfer) {
+            return false;
+        }
+        let Some(number) = transfer.delivery_id else {
+            return false;
+        };
+        let Some(tag) = &transfer.delivery_tag else {
+            return false;
+        };
+        if self.held.is_some() {
+            return false;
+        }
+        if self.flow.link_credit() == 0 {
+            return false;
+        }
+        if attachment.is_passed(0, payload.len() as u64) {
+            return false;
+        }
+        let unsettled = &mut self.unsettled;
+        if !enters(
+            attachment, unsettled, transfer, number, tag, payload, message,
+        ) {
+            return false;
+        }
+        spend(&mut self.flow);
+        true
     }
 
     /// Takes a transfer by which the sender gives its delivery up. It takes no memory.
@@ -292,11 +335,12 @@ impl ReceivingEnd {
     }
 
     /// The tag of the unsettled message that bears this number of its owner's, of the first of them if more than one
-    /// does. It takes time by the unsettled deliveries before it.
+    /// does. Where messages bear numbers that rise as the messages came, it takes hardly more time for many deliveries
+    /// than for few.
     pub fn tag_of(&self, message: u64) -> Option<&DeliveryTag>
         ensures { option_copied result ≡ tag_of self.now.unsettled message }
     {
-        tag_of(self.unsettled.iter(), message)
+        tag_of(&self.unsettled, message)
     }
 
     /// Ends an attachment, by a Detach or by a loss (part 2, 2.6.5). What has come of a delivery is kept where that isn't
@@ -326,6 +370,14 @@ impl ReceivingEnd {
             let _ = self.unsettled.remove(tag);
         }
     }
+}
+
+/// Uses one credit of those that are left.
+fn spend(flow: &mut LinkFlowState<ReceiverMarker>)
+    requires { 0 < flow.old.link_credit }
+    ensures { flow.new ≡ consumed flow.old 1 }
+{
+    let _ = flow.consume(1);
 }
 
 /// The last transfer of a delivery.

@@ -1,4 +1,8 @@
 pub mod Live
+pub mod Standing
+pub mod Ascending
+pub mod Seeking
+pub mod Changing
 pub mod Adding
 pub mod Halving
 pub mod Shortening

@@ -1,5 +1,5 @@
 -- The tags that have a value, among those that were entered.
-use Rattle.std.proofs.Common.{◌≡◌, ℕ, ◌+◌, ◌≤◌, suc, Bool, true, false, true≢false, cond, filter, List, [], ◌∷◌, ◌++◌, append_assoc, reverse, length, Option, None, Some, is_some, refl, sym, ap, subst, ◌∙◌, arith}
+use Rattle.std.proofs.Common.{◌≡◌, ℕ, ◌+◌, ◌≤◌, suc, Bool, true, false, cond, filter, List, [], ◌∷◌, ◌++◌, reverse, length, Option, None, Some, is_some, refl, sym, ap, ◌∙◌, arith}
 use Rattle.std.specs.List.{IsDistinct, AllByRecursion}
 use Rattle.std.specs.Map.{keys_of, lookup, remove_entry, set_value}
 use Rattle.std.specs.Option.{option_flatten, option_to_list}
@@ -139,5 +139,3 @@ module _ {M : Type 0} where
       ∙ live-append (reverse es) ((t, Some m) ∷ [])
       ∙ ap (λ (l : List (List ℕ × M)). l ++ (t, m) ∷ []) (live-reverse es)
       ∙ sym (reverse-append ((t, m) ∷ []) (live es))
-
-pub ruleset rules = (lookup-live, gone-removed, live-taken, live-exchanged, live-apart, live-append, live-short, live-swept, swept-absent, live-reverse)

@@ -1,5 +1,5 @@
 -- Worked rows, computed from the definitions: what becomes of interrupted deliveries (part 3, 3.4.6), and how many an Attach lists.
-use Rattle.std.proofs.Common.{◌≡◌, ℕ, ◌<◌, ◌≤◌, true, false, List, [], ◌∷◌, take, Option, Some, None, Ok, Err, zero, suc, refl, arith}
+use Rattle.std.proofs.Common.{◌≡◌, ℕ, ◌<◌, ◌≤◌, ◌-◌, ◌^◌, true, false, List, [], ◌∷◌, take, Option, Some, None, Ok, Err, zero, suc, refl, arith}
 use Rattle.amqp_session_states.specs.declared.accepted.Accepted.{Accepted}
 use Rattle.amqp_session_states.specs.declared.rejected.Rejected.{Rejected}
 use Rattle.amqp_session_states.specs.declared.released.Released.{Released}
@@ -11,6 +11,8 @@ use Rattle.amqp_link_unsettled.specs.declared.message.UnsettledMessage.{Unsettle
 use Rattle.amqp_link_unsettled.specs.declared.resumption.ResumingDelivery.TheVariants as resuming
 use Rattle.amqp_link_unsettled.specs.declared.resumption.Decision.TheVariants.{Resend, ResumeFrom, Abort, Restate, ResolveAsTold, ResolveAsListed}
 use Rattle.amqp_link_unsettled.specs.Entries.{live}
+use Rattle.amqp_link_unsettled.specs.Numbers.{tag_with}
+use Rattle.amqp_link_unsettled.specs.Rising.{InOrder, raised, restamped}
 use Rattle.amqp_link_unsettled.specs.Resumption.{start, is_past, decision, resumption}
 use Rattle.amqp_link_unsettled.specs.Listing.{Entries, or_null, halved, IsFirstHalf}
 
@@ -114,3 +116,38 @@ cut-to-none es = refl
 -- what was taken out is not among the deliveries
 taken-out : live {M = ℕ} ((0x61 ∷ [], Some 1) ∷ (0x62 ∷ [], None) ∷ (0x63 ∷ [], Some 3) ∷ []) ≡ (0x61 ∷ [], 1) ∷ (0x63 ∷ [], 3) ∷ []
 taken-out = refl
+
+-- the first delivery that bears a number, where two do, and where none does
+of-two : tag_with (λ (n : ℕ). Some n) 5 ((0x61 ∷ [], 4) ∷ (0x62 ∷ [], 5) ∷ (0x63 ∷ [], 5) ∷ []) ≡ Some (0x62 ∷ [])
+of-two = refl
+
+of-none : tag_with (λ (n : ℕ). Some n) 6 ((0x61 ∷ [], 4) ∷ (0x62 ∷ [], 5) ∷ []) ≡ None
+of-none = refl
+
+-- numbers that rise, with a tag whose value is gone
+in-order : InOrder (λ (n : ℕ). Some n) (Some 8)
+    ((0x61 ∷ [], record { below = 5; kept = Some 4 }) ∷ (0x62 ∷ [], record { below = 6; kept = None }) ∷ (0x63 ∷ [], record { below = 8; kept = Some 7 }) ∷ [])
+in-order = (omega arith, (omega arith, refl), (omega arith, tt, (omega arith, (omega arith, refl), omega arith)))
+
+-- a number that is more than those before, none, one that is less, and the greatest
+rises-on : raised (Some 6) (Some 8) ≡ Some 9
+rises-on = refl
+
+unnumbered : raised (Some 6) None ≡ Some 6
+unnumbered = refl
+
+falls : raised (Some 6) (Some 5) ≡ None
+falls = refl
+
+greatest : raised (Some 6) (Some (2 ^ 64 - 1)) ≡ None
+greatest = refl
+
+-- a number given to the last delivery, given to another one, and given again
+given-last : restamped 6 (Some 6) true None (Some 8) ≡ (9, Some 9)
+given-last = refl
+
+given-late : restamped 5 (Some 6) false None (Some 8) ≡ (5, None)
+given-late = refl
+
+given-again : restamped 5 (Some 6) false (Some 4) (Some 4) ≡ (5, Some 6)
+given-again = refl

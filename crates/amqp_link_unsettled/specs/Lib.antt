@@ -1,4 +1,6 @@
 pub mod Entries
+pub mod Numbers
+pub mod Rising
 pub mod Resumption
 pub mod Exchange
 pub mod Listing

@@ -5,9 +5,10 @@ ghost use Rattle.std.specs.Map.{keys_of};
 ghost use Rattle.std.specs.Map.Iter.{TakesFirst, ShowsInOrder, deref_pair};
 ghost use Rattle.std.specs.Iterator.{at_most};
 ghost use Rattle.std.specs.Str.{bytes_eq};
-ghost use Rattle.amqp_link_unsettled.specs.Entries.{live};
+ghost use Rattle.amqp_link_unsettled.specs.Rising.{standing};
 
 use crate::map::UnsettledMap;
+use crate::slot::Slot;
 use amqp_session_types::DeliveryTag;
 use indexmap::map;
 use std::marker::Model;
@@ -15,16 +16,16 @@ use std::marker::Model;
 /// What is left of the deliveries of an [`UnsettledMap`], in the order in which they were registered.
 #[derive(Drop)]
 pub struct Iter<'a, M> {
-    pub(crate) slots: map::Iter<'a, DeliveryTag, Option<M>>,
+    pub(crate) slots: map::Iter<'a, DeliveryTag, Slot<M>>,
 }
 
 impl<'a, M> Model for Iter<'a, M> {
     ghost use Rattle.std.specs.Prelude.{List, ℕ};
-    ghost use Rattle.amqp_link_unsettled.specs.Entries.{live};
+    ghost use Rattle.amqp_link_unsettled.specs.Rising.{standing};
 
     ghost Value = { List (List ℕ × M) };
 
-    ghost view = { λ i. live i.slots };
+    ghost view = { λ i. standing i.slots };
 }
 
 impl<'a, M> Iterator for Iter<'a, M> {
@@ -41,12 +42,12 @@ impl<'a, M> Iterator for Iter<'a, M> {
 
 /// The next tag that has a value, with that.
 fn next_live<'a, M>(
-    slots: &mut map::Iter<'a, DeliveryTag, Option<M>>,
+    slots: &mut map::Iter<'a, DeliveryTag, Slot<M>>,
 ) -> Option<(&'a DeliveryTag, &'a M)>
-    ensures { TakesFirst deref_pair (live slots.old) result (live slots.new) }
+    ensures { TakesFirst deref_pair (standing slots.old) result (standing slots.new) }
 {
     while let Some((tag, slot)) = slots.next() {
-        if let Some(message) = slot {
+        if let Some(message) = &slot.kept {
             return Some((tag, message));
         }
     }

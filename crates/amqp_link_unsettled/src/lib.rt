@@ -19,6 +19,8 @@ mod messages;
 mod open;
 mod resolution;
 mod resumption;
+mod rising;
+mod slot;
 
 pub use entry::Entry;
 pub use exchange::SenderAttachExchange;
@@ -34,3 +36,4 @@ pub use messages::Messages;
 pub use open::{Open, Resumption, Waiting};
 pub use resolution::{Failure, Resolution};
 pub use resumption::{Decision, ResumingDelivery, decide, is_past, resume_delivery};
+pub use slot::Numbered;

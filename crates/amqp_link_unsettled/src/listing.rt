@@ -11,6 +11,7 @@ ghost use Rattle.amqp_session_states.specs.declared.delivery_state.DeliveryState
 
 use crate::map::UnsettledMap;
 use crate::message::UnsettledMessage;
+use crate::slot::Numbered;
 use amqp_session_performatives::Attach;
 use amqp_session_states::DeliveryState;
 use amqp_session_types::DeliveryTag;
@@ -72,7 +73,7 @@ impl Listed for Option<DeliveryState> {
     }
 }
 
-impl<M: Listed + Drop> UnsettledMap<M> {
+impl<M: Listed + Numbered + Drop> UnsettledMap<M> {
     /// All deliveries as they are listed, in their order. It is refused where there is no memory for them.
     pub fn list(&self, alloc: Global) -> Result<UnsettledList, AllocError>
         ensures { IfOk result (λ l. l ≡ entries_listed M.listed self.now.entries) }
@@ -106,7 +107,7 @@ fn add<M: Listed>(
 ///
 /// Errors: `TooLarge` exactly where the Attach doesn't fit even without any of them, and `Memory`. The Attach is as
 /// before after each of them.
-pub fn list_unsettled<M: Listed + Drop>(
+pub fn list_unsettled<M: Listed + Numbered + Drop>(
     alloc: Global,
     attach: &mut Attach,
     map: &UnsettledMap<M>,

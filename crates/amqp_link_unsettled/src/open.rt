@@ -1,8 +1,8 @@
 //! A message that is open, and how it is sent on (part 2, 2.6.13).
-ghost use Rattle.std.specs.Prelude.{◌≡◌};
+ghost use Rattle.std.specs.Prelude.{◌≡◌, None};
 ghost use Rattle.amqp_link_unsettled.specs.Told.{told};
 
-use crate::{Listed, Noting};
+use crate::{Listed, Noting, Numbered};
 use amqp_session_states::{DeliveryState, Received};
 use amqp_session_types::DeliveryTag;
 use bytes::Bytes;
@@ -38,6 +38,15 @@ impl Noting for Open {
 
     fn note(&mut self, note: Option<DeliveryState>) {
         self.state = note;
+    }
+}
+
+/// A message that a link sends bears no number.
+impl Numbered for Open {
+    ghost number_of = { λ _. None };
+
+    fn number(&self) -> Option<u64> {
+        None
     }
 }
 

@@ -1,6 +1,7 @@
 pub mod Tables
 pub mod Leading
 pub mod Taking
+pub mod AtOnce
 pub mod Handing
 pub mod Owning
 pub mod Keeping

@@ -12,6 +12,8 @@ pub mod Disposing
 pub mod Flowing
 pub mod Refusals
 pub mod Told
+pub mod AtOnce
+pub mod ToldAtOnce
 pub mod History
 pub mod Vacant
 pub mod Lends

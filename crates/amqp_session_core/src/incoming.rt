@@ -113,7 +113,7 @@ impl<R: LinkRelay> Session<R> {
 }
 
 /// The link that a transfer with this handle reaches, once there is room for a delivery that begins.
-fn room_for_transfer<R>(
+pub(crate) fn room_for_transfer<R>(
     routes: &Routes,
     links: &Slab<R>,
     received: &mut Unsettled,
@@ -153,7 +153,7 @@ fn count_transfer(
 }
 
 /// Counts one more. Where that is half of the window it begins anew, and the answer is true.
-fn count(taken: &mut u32, window: u32) -> bool
+pub(crate) fn count(taken: &mut u32, window: u32) -> bool
     requires { (taken.old ≡ 0) ⊎ (2 * taken.old < window) }
     ensures due { result ≡ nat_le window (2 * (taken.old + 1)) }
     ensures taken { taken.new ≡ (if result then 0 else taken.old + 1) }
@@ -169,7 +169,7 @@ fn count(taken: &mut u32, window: u32) -> bool
 }
 
 /// The deliveries that aren't settled, behind a transfer of this link.
-fn register(received: &mut Unsettled, handle: OutputHandle, registration: Registration)
+pub(crate) fn register(received: &mut Unsettled, handle: OutputHandle, registration: Registration)
     requires { 0 < received.old.room }
     ensures { received.new.table ≡ registers received.old.table handle.0 registration }
 {

@@ -5,6 +5,7 @@
 #![tactic(auto)]
 
 mod accessors;
+mod at_once;
 mod batch;
 mod begins;
 mod dispositions;
@@ -21,6 +22,7 @@ mod sending;
 mod session;
 mod state;
 
+pub use at_once::TakenAtOnce;
 pub use batch::{Batch, BehindFrame, TransferFrame};
 pub use dispositions::{DeliveryRuns, DispositionRoom, FewNumbers, StateCopies, Touched, echoes};
 pub use fields::{OUTGOING_WINDOW, SessionFields};

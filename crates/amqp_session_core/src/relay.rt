@@ -1,6 +1,7 @@
 //! What a session asks of its links.
 ghost use Rattle.std.specs.Prelude.{◌≡◌};
 ghost use Rattle.amqp_session_core.specs.Relay.{session_error};
+ghost use Rattle.amqp_session_core.specs.AtOnce.{TakesAtOnce};
 
 use amqp_session_performatives::{Attach, Detach, LinkFlow, Transfer};
 use amqp_session_states::DeliveryState;
@@ -76,7 +77,9 @@ pub trait LinkOwner<R> {
 ///
 /// A link that refuses for want of memory is as before.
 pub trait LinkRelay: Drop {
+    ghost use Rattle.std.specs.Prelude.{ℕ, List};
     ghost use Rattle.amqp_session_core.specs.Relay.{Relations};
+    ghost use Rattle.amqp_session_performatives.specs.declared.transfer.Transfer.{Transfer};
 
     /// What a link tells of an Attach.
     type Attached: Drop;
@@ -89,6 +92,12 @@ pub trait LinkRelay: Drop {
 
     /// What its calls do: the link before, the frame, the answer, and the link behind.
     ghost gives: { Relations Self Self.Attached Self.Transferred Self.Detached };
+
+    /// What it tells of a transfer that brings a whole message, with these bytes.
+    ghost tells: { Transfer → List ℕ → Self.Transferred };
+
+    /// The link, once the message that a transfer brought bears this number of its owner's.
+    ghost names: { Self → Transfer → ℕ → Self };
 
     /// Takes the peer's Attach (part 2, 2.7.3).
     fn on_incoming_attach(
@@ -117,6 +126,14 @@ pub trait LinkRelay: Drop {
     ) -> Result<TransferAnswer<Self::Transferred>, RelayError>
         ensures gives { gives.transfers self.old transfer payload result self.new }
         ensures memory { result ≡ Err RelayError.Memory → self.new ≡ self.old };
+
+    /// Takes a transfer with its payload at once, and says whether it did, where the transfer brings a whole message, as
+    /// `on_incoming_transfer` takes it (part 2, 2.7.5). A message that isn't settled bears this number of its owner's from
+    /// then on. Nothing changes where it didn't: the transfer is to be taken in the general way then. A link may always
+    /// answer no.
+    fn takes_at_once(&mut self, transfer: &Transfer, payload: &Bytes, message: u64) -> bool
+        ensures { TakesAtOnce gives.transfers tells names self.old transfer.now payload.now message
+            result self.new };
 
     /// Takes the disposition of one delivery (part 2, 2.7.6), and answers whether it is echoed. It takes no memory.
     fn on_incoming_disposition(

@@ -1,7 +1,9 @@
 //! The peer's bytes are fed.
-ghost use Rattle.std.specs.Prelude.{◌≡◌, ◌≤◌, ◌++◌, [], true, Some, None, IsSome, IfOk, IfErr, IfSome, OnOk};
-ghost use Rattle.std.specs.Prelude.{MatchOption, MatchResult, drop, length, take};
+ghost use Rattle.std.specs.Prelude.{◌≡◌, ◌≤◌, ◌<◌, ◌++◌, ◌∷◌, [], true, Some, None, IsSome, IfOk, IfErr, IfNone, IfSome};
+ghost use Rattle.std.specs.Prelude.{MatchOption, OnOk, OnSome, drop, length, take};
+ghost use Rattle.std.specs.Vec.{vec_capacity, vec_len};
 ghost use Rattle.amqp_session_frames.specs.Text.{FrameText, empty_on};
+ghost use Rattle.amqp_endpoint_model.specs.Arriving.{SaysDelivery, arrived};
 ghost use Rattle.amqp_endpoint_model.specs.State.{error_of, has_opened, own_close_with};
 ghost use Rattle.amqp_endpoint_model.specs.Step.{ClosesBoth, FeedsIn, FrontRefused, FrontUnread, Greets, ReadsOn};
 ghost use Rattle.amqp_endpoint_model.specs.Step.{SendsClose, Waits, closed, opened as opened_state, with_close};
@@ -10,18 +12,20 @@ ghost use Rattle.amqp_endpoint_model.specs.declared.error.EndpointError.TheVaria
 ghost use Rattle.amqp_endpoint_model.specs.declared.phase.Phase.TheVariants.{Greeting, Running};
 ghost use Rattle.amqp_endpoint_core.specs.Reading.{BodyRefused, BodyTaken, EndsBy, FrameSplit, FrontTaken, GreetedOff};
 ghost use Rattle.amqp_endpoint_core.specs.Reading.{HeaderLeft, HeaderRefused, HeaderTaken, PieceOf, SizeRefused};
-ghost use Rattle.amqp_endpoint_core.specs.Reading.{condition_text, says_too_little};
+ghost use Rattle.amqp_endpoint_core.specs.Reading.{Tells, condition_text, says_too_little};
 
 use super::Endpoint;
 use crate::coding::{MIN_MAX_FRAME_SIZE, PROTOCOL_HEADER, decoded, error_of_condition};
 use crate::condition::Condition;
 use crate::connecting::{open, send_close, take_open, take_peers_close};
 use crate::queued::gather;
-use amqp_endpoint_model::{Closed, EndpointError, Event, Fed, Opened, Phase, SessionRelay};
+use amqp_endpoint_model::{
+    Arrival, Closed, EndpointError, Event, Fed, Opened, Phase, SessionRelay,
+};
 use amqp_session_frames::{Frame, FrameBody, FrameDecoder};
-use amqp_session_performatives::{Close, Open};
+use amqp_session_performatives::{Close, Open, Transfer};
 use amqp_session_types::IncomingChannel;
-use bytes::{Buf, BytesMut};
+use bytes::{Buf, Bytes, BytesMut};
 use std::alloc::Global;
 
 /// The shortest frame: its header alone (part 2, 2.3.1).
@@ -48,26 +52,36 @@ impl<S: SessionRelay> Endpoint<S> {
         ensures { FeedsIn S.does self.old.phase self.old bytes.now (result.events.items)
             result.fault self.new }
     {
+        let mut events = Vec::new(self.alloc);
+        let fault = self.feed_into(bytes, &mut events);
+        Fed { events, fault }
+    }
+
+    /// `feed`, which puts what the frames say behind these events, and answers the fault.
+    pub fn feed_into(&mut self, bytes: &[u8], events: &mut Vec<Event>) -> Option<EndpointError>
+        ensures { Tells (λ told. FeedsIn S.does self.old.phase self.old bytes.now told result self.new)
+            events.old.items events.new.items }
+    {
         match self.phase {
-            Phase::Unconnected => fault_alone(self.alloc, EndpointError::NotConnected),
-            Phase::Greeting => self.feed_header(bytes),
-            Phase::Running => self.feed_frames(bytes),
-            Phase::Over => nothing_new(self.alloc),
+            Phase::Unconnected => Some(EndpointError::NotConnected),
+            Phase::Greeting => self.feed_header(bytes, events),
+            Phase::Running => self.feed_frames(bytes, events),
+            Phase::Over => None,
         }
     }
 
     #[inline(never)]
-    fn feed_header(&mut self, bytes: &[u8]) -> Fed
+    fn feed_header(&mut self, bytes: &[u8], events: &mut Vec<Event>) -> Option<EndpointError>
         requires { self.old.phase ≡ Greeting }
-        ensures { Greets S.does self.old (self.old.rest ++ bytes.now) (result.events.items)
-            result.fault self.new }
+        ensures { Tells (λ told. Greets S.does self.old (self.old.rest ++ bytes.now) told result self.new)
+            events.old.items events.new.items }
     {
         match self.take_in_header(bytes) {
-            Ok(true) => self.read_frames(),
-            Ok(false) => nothing_new(self.alloc),
+            Ok(true) => self.read_frames(events),
+            Ok(false) => None,
             Err(fault) => {
                 self.break_off();
-                fault_alone(self.alloc, fault)
+                Some(fault)
             }
         }
     }
@@ -128,51 +142,36 @@ impl<S: SessionRelay> Endpoint<S> {
     }
 
     #[inline(never)]
-    fn feed_frames(&mut self, bytes: &[u8]) -> Fed
+    fn feed_frames(&mut self, bytes: &[u8], events: &mut Vec<Event>) -> Option<EndpointError>
         requires { self.old.phase ≡ Running }
-        ensures { ReadsOn S.does self.old (self.old.rest ++ bytes.now) (result.events.items)
-            result.fault self.new }
+        ensures { Tells (λ told. ReadsOn S.does self.old (self.old.rest ++ bytes.now) told result self.new)
+            events.old.items events.new.items }
     {
         match self.take_in(bytes) {
-            Ok(()) => self.read_frames(),
+            Ok(()) => self.read_frames(events),
             Err(fault) => {
                 self.break_off();
-                fault_alone(self.alloc, fault)
+                Some(fault)
             }
         }
     }
 
     /// Takes the whole frames of the input, up to the peer's Close or a fault.
     #[inline(always)]
-    #[tactic(auto, using(crate::proofs::FeedLaws::so_far_none, crate::proofs::FeedLaws::so_far_more, crate::proofs::FeedLaws::front_shorter, crate::proofs::FeedLaws::ends_waiting, crate::proofs::FeedLaws::ends_closed, crate::proofs::FeedLaws::ends_by_fault))]
-    fn read_frames(&mut self) -> Fed
+    #[tactic(auto, using(crate::proofs::FeedLaws::behind_none, crate::proofs::FeedLaws::front_shorter, crate::proofs::FeedLaws::behind_closed))]
+    fn read_frames(&mut self, events: &mut Vec<Event>) -> Option<EndpointError>
         requires { self.old.phase ≡ Running }
-        ensures { ReadsOn S.does self.old self.old.rest (result.events.items) result.fault
-            self.new }
+        ensures { Tells (λ told. ReadsOn S.does self.old self.old.rest told result self.new)
+            events.old.items events.new.items }
     {
-        let mut events = Vec::new(self.alloc);
         while self.is_running() {
-            match self.read_frame(&mut events) {
+            match self.read_frame(events) {
                 Ok(true) => {}
-                Ok(false) => {
-                    return Fed {
-                        events,
-                        fault: None,
-                    };
-                }
-                Err(fault) => {
-                    let fault = self.end_by(fault);
-                    return Fed {
-                        events,
-                        fault: Some(fault),
-                    };
-                }
+                Ok(false) => return None,
+                Err(fault) => return Some(self.end_by(fault)),
             }
         }
-        Fed {
-            events,
-            fault: None,
-        }
+        None
     }
 
     /// Takes the frame in front, if it is whole.
@@ -277,8 +276,64 @@ impl<S: SessionRelay> Endpoint<S> {
             FrameBody::Empty => Ok(()),
             FrameBody::Open(open) => self.take_open(channel, open, events),
             FrameBody::Close(close) => self.take_close(channel, close, events),
+            FrameBody::Transfer {
+                performative,
+                payload,
+            } => self.take_transfer(channel, performative, payload, events),
             body => self.take_session(channel, body, events),
         }
+    }
+
+    /// The sessions take a Transfer: at once where it brings a whole message, and else as any frame of theirs.
+    #[inline(never)]
+    fn take_transfer(
+        &mut self,
+        channel: IncomingChannel,
+        performative: Transfer,
+        payload: Bytes,
+        events: &mut Vec<Event>,
+    ) -> Result<(), EndpointError>
+        requires { self.old.phase ≡ Running }
+        ensures ok { OnOk result (BodyTaken S.does self.old channel.0
+            (FrameBody.Transfer performative payload) events.old.items events.new.items self.new) }
+        ensures err { IfErr result (λ e. BodyRefused S.does self.old channel.0
+            (FrameBody.Transfer performative payload) e self.new × (events.new.items ≡ events.old.items)) }
+    {
+        if let Some(arrival) = self.takes_at_once(channel, &performative, &payload, events) {
+            events.push_reserved(arrival.told(performative, payload));
+            return Ok(());
+        }
+        let body = FrameBody::Transfer {
+            performative,
+            payload,
+        };
+        self.take_session(channel, body, events)
+    }
+
+    /// The sessions take a Transfer at once, and its message is to be told. Where they don't nothing changes; there is
+    /// room for the event where they do.
+    fn takes_at_once(
+        &mut self,
+        channel: IncomingChannel,
+        transfer: &Transfer,
+        payload: &Bytes,
+        events: &mut Vec<Event>,
+    ) -> Option<Arrival>
+        requires { self.old.phase ≡ Running }
+        ensures says { OnSome result (SaysDelivery transfer.now) }
+        ensures taken { IfSome result (λ it. BodyTaken S.does self.old channel.0
+            (FrameBody.Transfer transfer.now payload.now) events.old.items
+            (events.old.items ++ arrived it transfer.now payload.now ∷ []) self.new) }
+        ensures none { IfNone result (self.new ≡ self.old) }
+        ensures room { OnSome result (vec_len events.new < vec_capacity events.new) }
+        ensures events { events.new.items ≡ events.old.items }
+    {
+        if events.reserve(1).is_err() {
+            return None;
+        }
+        let limit = self.limit();
+        self.sessions
+            .takes_at_once(limit, channel, transfer, payload, &mut self.out)
     }
 
     /// The sessions take a frame of theirs.
@@ -416,23 +471,5 @@ fn says_too_little(limit: Option<u32>, most: u32) -> bool
     match limit {
         None => most < MIN_MAX_FRAME_SIZE,
         Some(_) => false,
-    }
-}
-
-fn nothing_new(alloc: Global) -> Fed
-    ensures { (result.events.items ≡ []) × (result.fault ≡ None) }
-{
-    Fed {
-        events: Vec::new(alloc),
-        fault: None,
-    }
-}
-
-fn fault_alone(alloc: Global, fault: EndpointError) -> Fed
-    ensures { (result.events.items ≡ []) × (result.fault ≡ Some fault) }
-{
-    Fed {
-        events: Vec::new(alloc),
-        fault: Some(fault),
     }
 }
