@@ -7,7 +7,7 @@ ghost use Rattle.amqp_link_base.specs.Scans.{Scanned};
 
 use crate::scan::{Scan, reach};
 use amqp_session_states::Received;
-use bytes::{Bytes, BytesMut};
+use bytes::Bytes;
 use std::alloc::{AllocError, Global};
 use std::marker::Model;
 
@@ -104,7 +104,8 @@ impl Gathered {
     pub fn join(&self, alloc: Global, kept: usize, last: &Bytes) -> Result<Bytes, AllocError>
         ensures { IfOk result (λ all. all ≡ take kept self.now ++ last.now) }
     {
-        joined(alloc, &self.pieces, kept, last)
+        let size = self.size.min(kept).saturating_add(last.len());
+        joined(alloc, size, &self.pieces, kept, last)
     }
 
     /// The pieces.
@@ -115,11 +116,17 @@ impl Gathered {
     }
 }
 
-/// The first bytes of the pieces, and a last piece behind them.
-fn joined(alloc: Global, pieces: &[Bytes], kept: usize, last: &Bytes) -> Result<Bytes, AllocError>
+/// The first bytes of the pieces, and a last piece behind them, in memory for so many.
+fn joined(
+    alloc: Global,
+    size: usize,
+    pieces: &[Bytes],
+    kept: usize,
+    last: &Bytes,
+) -> Result<Bytes, AllocError>
     ensures { IfOk result (λ all. all ≡ take kept (concat pieces.now) ++ last.now) }
 {
-    let mut all = BytesMut::new(alloc);
+    let mut all: Vec<u8> = Vec::with_capacity(alloc, size)?;
     let mut left = kept;
     for piece in pieces {
         let n = left.min(piece.len());
@@ -127,7 +134,7 @@ fn joined(alloc: Global, pieces: &[Bytes], kept: usize, last: &Bytes) -> Result<
         left -= n;
     }
     all.extend_from_slice(last)?;
-    match all.freeze() {
+    match Bytes::from_vec(all) {
         Ok(bytes) => Ok(bytes),
         Err(_) => Err(AllocError),
     }
