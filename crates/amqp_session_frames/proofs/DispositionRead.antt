@@ -1,5 +1,5 @@
 -- A Disposition in its common form is read by hand.
-use Rattle.std.proofs.Common.{◌≡◌, ℕ, ◌+◌, ◌≤◌, List, [], ◌∷◌, ◌++◌, length, drop, get_or, Bool, true, false, Option, Some, None, refl, sym, ◌∙◌, ap, subst, arith}
+use Rattle.std.proofs.Common.{◌≡◌, ℕ, ◌+◌, ◌≤◌, List, [], ◌∷◌, ◌++◌, length, drop, get_or, Bool, false, Option, Some, None, refl, sym, ◌∙◌, ap, subst, arith}
 use Rattle.std.specs.Prelude.{unwrap_or}
 use Rattle.serde_amqp_item.specs.Item.{Item, Items, scalar, boolean, null, uint, ulong, list, described, no_items, more_items, item_count}
 use Rattle.serde_amqp_item.specs.Record.{option_item, record_item}
@@ -19,6 +19,7 @@ use Rattle.amqp_session_frames.specs.declared.common_disposition.BareOutcome.The
 use Rattle.amqp_session_frames.specs.declared.common_disposition.DispositionFields.{DispositionFields}
 use Rattle.amqp_session_frames.specs.declared.frame.FrameBody.TheVariants as bodies
 use Rattle.amqp_session_frames.proofs.Fronts.{forms_of, record_performed}
+use Rattle.amqp_session_frames.proofs.LastRead.{flag_or_false_taken, taken_more, uint_or_null_taken}
 
 -- ---- the outcome
 
@@ -46,24 +47,6 @@ outcome_found bytes o long a b d c =
     }
 
 -- ---- what the fields take
-
-taken_more : (take : Item → Option Item) (takes : List (Item → Option Item)) (x y : Item) (xs : Items) (ys : List Item)
-    → take x ≡ Some y → fields_taken takes xs ≡ Some ys → fields_taken (take ∷ takes) (more_items x xs) ≡ Some (y ∷ ys)
-taken_more take takes x y xs ys one rest =
-    ap (λ (o : Option Item). o >>= λ z. fields_taken takes xs >>= λ zs. Some (z ∷ zs)) one
-    ∙ ap (λ (o : Option (List Item)). o >>= λ zs. Some (y ∷ zs)) rest
-
-last_taken : (last : Option ℕ) → option_taken uint_taken (option_item (λ n. scalar (uint n)) last) ≡ Some (option_item (λ n. scalar (uint n)) last)
-unfolding option_taken
-last_taken None = refl
-last_taken (Some n) = refl
-
-settled_taken : (settled : Option Bool) → mapped (or_null (is_boolean false)) (option_taken boolean_taken) (flag_item settled)
-    ≡ Some (or_null (is_boolean false) (scalar (boolean (unwrap_or settled false))))
-unfolding option_taken mapped
-settled_taken None = refl
-settled_taken (Some true) = refl
-settled_taken (Some false) = refl
 
 outcome_taken : (o : BareOutcome) → option_taken delivery_state_taken (bare_item o) ≡ Some (delivery_state_item (state_of o))
 unfolding option_taken choice_taken row_said
@@ -96,8 +79,8 @@ all_taken b first last settled o =
     let lasts : List Item = option_item (λ n. scalar (uint n)) last ∷ settles in
     taken_more boolean_taken one (scalar (boolean b)) (scalar (boolean b)) numbered (scalar (uint first) ∷ lasts) refl
     (taken_more uint_taken two (scalar (uint first)) (scalar (uint first)) lasting lasts refl
-    (taken_more (option_taken uint_taken) three (option_item (λ n. scalar (uint n)) last) (option_item (λ n. scalar (uint n)) last) settling settles (last_taken last)
-    (taken_more flag four (flag_item settled) (or_null (is_boolean false) (scalar (boolean (unwrap_or settled false)))) state states (settled_taken settled)
+    (taken_more (option_taken uint_taken) three (option_item (λ n. scalar (uint n)) last) (option_item (λ n. scalar (uint n)) last) settling settles (uint_or_null_taken last)
+    (taken_more flag four (flag_item settled) (or_null (is_boolean false) (scalar (boolean (unwrap_or settled false)))) state states (flag_or_false_taken settled)
     (taken_more (option_taken delivery_state_taken) (flag ∷ []) (bare_item o) (delivery_state_item (state_of o)) no_items (scalar null ∷ []) (outcome_taken o) refl))))
 
 -- ---- the body

@@ -1,15 +1,17 @@
 -- Items that stand in front of bytes are read by hand.
 use Rattle.std.proofs.Common.{◌≡◌, ℕ, ◌+◌, ◌-◌, ◌<◌, ◌≤◌, List, [], ◌∷◌, ◌++◌, length, take, drop, get_or, Bool, true, false, Option, Some, None, refl, sym, ◌∙◌, ap, arith, length-append, length-drop, take-append-drop, suc, Fits, w8}
-use Rattle.std.specs.Prelude.{slice_range, ◌≢◌, ◌==◌}
+use Rattle.std.specs.Prelude.{slice_range, ◌≢◌, ◌==◌, if◌then◌else◌}
 use Rattle.std.proofs.lemmas.Bool.Decides.{nat_tests}
-use Rattle.std.proofs.lemmas.List.{length-take-le}
-use Rattle.std.specs.Int.{w32, from_be_bytes}
-use Rattle.serde_amqp_item.specs.Item.{Item, Items, scalar, boolean, null, uint, ulong, binary, list, described, more_items, item_count}
+use Rattle.std.proofs.lemmas.List.{length-take-le, take_all}
+use Rattle.std.specs.Int.{w32, w64, from_be_bytes}
+use Rattle.std.specs.Str.{IsUtf8}
+use Rattle.std.proofs.lemmas.Str.{is_utf8-from_IsUtf8}
+use Rattle.serde_amqp_item.specs.Item.{Item, Items, scalar, boolean, null, ubyte, uint, ulong, binary, string, list, described, more_items, item_count}
 use Rattle.serde_amqp_item.specs.Wire.{Form, Forms, IsCapped, IsStrict, Wire, row_of, code_of}
 use Rattle.amqp_session_performatives.specs.Performative.{performative_item, performative_taken}
 use Rattle.amqp_session_performatives.specs.declared.performative.Performative.{Performative}
 use Rattle.amqp_session_frames.specs.Body.{Performed}
-use Rattle.amqp_session_frames.specs.Items.{Counted, FourFront, Front, RecordFront, flag_item}
+use Rattle.amqp_session_frames.specs.Items.{Counted, EightFront, FourFront, Front, RecordFront, flag_item}
 use Rattle.amqp_session_frames.proofs.Bodies.{performed}
 
 -- the forms of a uint
@@ -35,6 +37,38 @@ wide_form n bytes rest f =
 moved : (x : Item) (one two rest : List ℕ) → one ≡ two → Front x two rest → Front x one rest
 moved x one two rest same f = record { code = f.code; text = f.text; whole = same ∙ f.whole; form = f.form }
 
+-- the forms of a ulong
+ulong_zero_form : (rest : List ℕ) → Front (scalar (ulong 0)) (0x44 ∷ rest) rest
+unfolding row_of code_of
+ulong_zero_form rest = record { code = 0x44; text = []; whole = refl; form = (refl, refl) }
+
+ulong_small_form : (n : ℕ) (rest : List ℕ) → Front (scalar (ulong n)) (0x53 ∷ n ∷ rest) rest
+unfolding row_of code_of
+ulong_small_form n rest = record { code = 0x53; text = n ∷ []; whole = refl; form = (refl, refl) }
+
+ulong_wide_form : (n : ℕ) (bytes rest : List ℕ) → EightFront n bytes rest → Front (scalar (ulong n)) (0x80 ∷ bytes) rest
+unfolding row_of code_of
+ulong_wide_form n bytes rest f =
+    record {
+      code = 0x80;
+      text = f.text;
+      whole = ap (λ (l : List ℕ). 0x80 ∷ l) f.whole;
+      form = (f.long, ap (λ (k : ℕ). Some (ulong k)) (sym f.value));
+    }
+
+pub ulong_zero : (bytes rest : List ℕ) (code : ℕ) → bytes ≡ code ∷ rest → code ≡ 0x44 → Front (scalar (ulong 0)) bytes rest
+ulong_zero bytes rest code is zero = moved (scalar (ulong 0)) bytes (0x44 ∷ rest) rest (is ∙ ap (λ (k : ℕ). k ∷ rest) zero) (ulong_zero_form rest)
+
+pub ulong_small : (bytes behind rest : List ℕ) (code n : ℕ) → bytes ≡ code ∷ behind → code ≡ 0x53 → behind ≡ n ∷ rest → Front (scalar (ulong n)) bytes rest
+ulong_small bytes behind rest code n is small next =
+    moved (scalar (ulong n)) bytes (0x53 ∷ n ∷ rest) rest (is ∙ ap (λ (k : ℕ). k ∷ behind) small ∙ ap (λ (l : List ℕ). 0x53 ∷ l) next) (ulong_small_form n rest)
+
+pub ulong_wide : (bytes behind rest : List ℕ) (code n : ℕ) → bytes ≡ code ∷ behind → code ≡ 0x80 → EightFront n behind rest → Front (scalar (ulong n)) bytes rest
+ulong_wide bytes behind rest code n is wide f =
+    moved (scalar (ulong n)) bytes (0x80 ∷ behind) rest (is ∙ ap (λ (k : ℕ). k ∷ behind) wide) (ulong_wide_form n behind rest f)
+
+pub ruleset ulong_forms = (ulong_zero, ulong_small, ulong_wide)
+
 pub uint_zero : (bytes rest : List ℕ) (code : ℕ) → bytes ≡ code ∷ rest → code ≡ 0x43 → Front (scalar (uint 0)) bytes rest
 uint_zero bytes rest code is zero = moved (scalar (uint 0)) bytes (0x43 ∷ rest) rest (is ∙ ap (λ (k : ℕ). k ∷ rest) zero) (zero_form rest)
 
@@ -48,8 +82,12 @@ uint_wide bytes behind rest code n is wide f =
 
 pub ruleset uint_forms = (uint_zero, uint_small, uint_wide)
 
+-- what a slice from here on is
+pub left_behind : (n : ℕ) (bytes : List ℕ) → take (length bytes - n) (drop n bytes) ≡ drop n bytes
+left_behind n bytes = take_all (length bytes - n) (drop n bytes) (omega (arith, length-drop n bytes))
+
 -- the first four bytes
-four_first : (bytes : List ℕ) → 4 ≤ length bytes → bytes ≡ get_or bytes 0 0 ∷ get_or bytes 1 0 ∷ get_or bytes 2 0 ∷ get_or bytes 3 0 ∷ drop 4 bytes
+pub four_first : (bytes : List ℕ) → 4 ≤ length bytes → bytes ≡ get_or bytes 0 0 ∷ get_or bytes 1 0 ∷ get_or bytes 2 0 ∷ get_or bytes 3 0 ∷ drop 4 bytes
 four_first (a ∷ b ∷ c ∷ d ∷ rest) le = refl
 four_first (a ∷ b ∷ c ∷ []) le = absurd (omega arith)
 four_first (a ∷ b ∷ []) le = absurd (omega arith)
@@ -67,6 +105,50 @@ four_found bytes rest n le is behind =
       d = get_or bytes 3 0;
       whole = four_first bytes le ∙ ap (λ (l : List ℕ). get_or bytes 0 0 ∷ get_or bytes 1 0 ∷ get_or bytes 2 0 ∷ get_or bytes 3 0 ∷ l) (sym behind);
       value = is;
+    }
+
+-- the first eight bytes
+eight_first : (bytes : List ℕ) → 8 ≤ length bytes
+    → bytes ≡ get_or bytes 0 0 ∷ get_or bytes 1 0 ∷ get_or bytes 2 0 ∷ get_or bytes 3 0 ∷ get_or bytes 4 0 ∷ get_or bytes 5 0 ∷ get_or bytes 6 0 ∷ get_or bytes 7 0 ∷ drop 8 bytes
+eight_first (a ∷ b ∷ c ∷ d ∷ e ∷ f ∷ g ∷ h ∷ rest) le = refl
+eight_first (a ∷ b ∷ c ∷ d ∷ e ∷ f ∷ g ∷ []) le = absurd (omega arith)
+eight_first (a ∷ b ∷ c ∷ d ∷ e ∷ f ∷ []) le = absurd (omega arith)
+eight_first (a ∷ b ∷ c ∷ d ∷ e ∷ []) le = absurd (omega arith)
+eight_first (a ∷ b ∷ c ∷ d ∷ []) le = absurd (omega arith)
+eight_first (a ∷ b ∷ c ∷ []) le = absurd (omega arith)
+eight_first (a ∷ b ∷ []) le = absurd (omega arith)
+eight_first (a ∷ []) le = absurd (omega arith)
+eight_first [] le = absurd (omega arith)
+
+abbrev eight_of : List ℕ → List ℕ
+eight_of bytes =
+    get_or bytes 0 0 ∷ get_or bytes 1 0 ∷ get_or bytes 2 0 ∷ get_or bytes 3 0 ∷ get_or bytes 4 0 ∷ get_or bytes 5 0 ∷ get_or bytes 6 0 ∷ get_or bytes 7 0 ∷ []
+
+pub eight_found : (bytes rest : List ℕ) (n : ℕ) → 8 ≤ length bytes
+    → n ≡ from_be_bytes w64 (eight_of bytes)
+    → rest ≡ drop 8 bytes → EightFront n bytes rest
+eight_found bytes rest n le is behind =
+    record {
+      text = eight_of bytes;
+      whole = eight_first bytes le ∙ ap (λ (l : List ℕ). eight_of bytes ++ l) (sym behind);
+      long = refl;
+      value = is;
+    }
+
+-- a string
+pub string_form : (bytes behind content text rest : List ℕ) (code : ℕ) → bytes ≡ code ∷ behind → code ≡ 0xa1 → Counted content behind rest
+    → text ≡ content → IsUtf8 content → Front (scalar (string text)) bytes rest
+unfolding row_of code_of
+string_form bytes behind content text rest code is str8 f same utf8 =
+    record {
+      code = 0xa1;
+      text = length content ∷ content;
+      whole = is ∙ ap (λ (k : ℕ). k ∷ behind) str8 ∙ ap (λ (l : List ℕ). 0xa1 ∷ l) f.whole;
+      form = (
+        content,
+        record { fits = f.fits; whole = refl },
+        ap (λ (b : Bool). if b then Some (string content) else None) (is_utf8-from_IsUtf8 content utf8) ∙ ap (λ (l : List ℕ). Some (string l)) (sym same),
+      );
     }
 
 -- a binary
@@ -105,6 +187,16 @@ pub null_front : (bytes rest : List ℕ) (code : ℕ) → bytes ≡ code ∷ res
 null_front bytes rest code is at = moved (scalar null) bytes (0x40 ∷ rest) rest (is ∙ ap (λ (k : ℕ). k ∷ rest) at) (null_form rest)
 
 pub ruleset null_forms = (null_front)
+
+ubyte_form : (n : ℕ) (rest : List ℕ) → Front (scalar (ubyte n)) (0x50 ∷ n ∷ rest) rest
+unfolding row_of code_of
+ubyte_form n rest = record { code = 0x50; text = n ∷ []; whole = refl; form = (refl, refl) }
+
+pub ubyte_front : (bytes behind rest : List ℕ) (code n : ℕ) → bytes ≡ code ∷ behind → code ≡ 0x50 → behind ≡ n ∷ rest → Front (scalar (ubyte n)) bytes rest
+ubyte_front bytes behind rest code n is at next =
+    moved (scalar (ubyte n)) bytes (0x50 ∷ n ∷ rest) rest (is ∙ ap (λ (k : ℕ). k ∷ behind) at ∙ ap (λ (l : List ℕ). 0x50 ∷ l) next) (ubyte_form n rest)
+
+pub ruleset ubyte_forms = (null_front, ubyte_front)
 
 pub counted_found : (bytes behind content rest : List ℕ) (size : ℕ) → bytes ≡ size ∷ behind → size < 256 → size ≤ length behind
     → content ≡ take size behind → rest ≡ drop size behind → Counted content bytes rest

@@ -4,7 +4,10 @@ pub mod ReadingLaws
 pub mod Layouts
 pub mod Bodies
 pub mod Fronts
+pub mod LastRead
 pub mod TransferRead
+pub mod TerminusRead
+pub mod AttachRead
 pub mod Puts
 pub mod ItemTexts
 pub mod TransferWritten

@@ -1,10 +1,11 @@
 -- Items in front of bytes, and the texts of items: part 1, 1.6.
 use Rattle.std.specs.Prelude.{◌≡◌, ℕ, ◌+◌, ◌==◌, ◌<◌, ◌≤◌, ◌^◌, nat_lt, List, [], ◌∷◌, ◌++◌, length, take, slice_range}
-use Rattle.std.specs.Prelude.{Bool, true, false, Option, Some, if◌then◌else◌}
-use Rattle.std.specs.Int.{w32, from_be_bytes, to_be_bytes}
-use Rattle.serde_amqp_item.specs.Item.{Item, scalar, boolean}
+use Rattle.std.specs.Prelude.{Bool, true, false, Option, Some, None, if◌then◌else◌}
+use Rattle.std.specs.Int.{w32, w64, from_be_bytes, to_be_bytes}
+use Rattle.serde_amqp_item.specs.Item.{Item, Items, scalar, boolean, item_count}
 use Rattle.serde_amqp_item.specs.Record.{option_item}
-use Rattle.serde_amqp_item.specs.Wire.{Form, IsCapped, IsStrict, row_of}
+use Rattle.serde_amqp_item.specs.Wire.{Form, Forms, IsCapped, IsStrict, row_of}
+use Rattle.serde_amqp_de.specs.Takes.{fields_taken}
 
 -- ---- reading
 
@@ -24,6 +25,13 @@ pub record FourFront (n : ℕ) (bytes rest : List ℕ) : Type 0 where
   pub whole : bytes ≡ a ∷ b ∷ c ∷ d ∷ rest
   pub value : n ≡ from_be_bytes w32 (a ∷ b ∷ c ∷ d ∷ [])
 
+-- a number of eight bytes stands in front of the rest
+pub record EightFront (n : ℕ) (bytes rest : List ℕ) : Type 0 where
+  pub text : List ℕ
+  pub whole : bytes ≡ text ++ rest
+  pub long : length text ≡ 8
+  pub value : n ≡ from_be_bytes w64 text
+
 -- so many bytes, which a byte in front counts, stand in front of the rest
 pub record Counted (content bytes rest : List ℕ) : Type 0 where
   pub whole : bytes ≡ length content ∷ (content ++ rest)
@@ -35,6 +43,14 @@ pub record RecordFront (code : ℕ) (content : List ℕ) (count : ℕ) (fields :
   pub rest : List ℕ
   pub whole : content ≡ 0 ∷ 0x53 ∷ code ∷ 0xc0 ∷ (length fields + 1) ∷ count ∷ (fields ++ rest)
   pub fits : length fields + 1 < 256
+
+-- All the bytes are the last fields of a record, of which there are so many: these items are taken, and these are what
+-- they are taken as (1.4).
+pub record Fields (takes : List (Item → Option Item)) (values : List Item) (count : ℕ) (bytes : List ℕ) : Type 0 where
+  pub items : Items
+  pub counts : count ≡ item_count items
+  pub forms : Forms IsCapped IsStrict items None bytes
+  pub taken : fields_taken takes items ≡ Some values
 
 -- a boolean, or null where it is absent
 abbrev pub flag_item : Option Bool → Item

@@ -1,8 +1,7 @@
 //! A Disposition in its common form, read of bytes by hand, beside `Performative::read`, and written by hand, beside
 //! `Disposition::serialize` (part 2, 2.7.6).
 ghost use Rattle.std.specs.Prelude.{◌+◌, ◌<◌, ◌≡◌, ◌≤◌, ◌^◌, IfSome, [], false};
-ghost use Rattle.serde_amqp_item.specs.Item.{scalar, boolean, uint};
-ghost use Rattle.serde_amqp_item.specs.Record.{option_item};
+ghost use Rattle.serde_amqp_item.specs.Item.{scalar, boolean};
 ghost use Rattle.amqp_session_types.specs.Modes.{role_item};
 ghost use Rattle.amqp_session_frames.specs.CommonDisposition.{HaveRange, IsBare, bare_item, disposition_text};
 ghost use Rattle.amqp_session_frames.specs.CommonDisposition.{fields_text, last_text, outcome_code, saying_only};
@@ -13,7 +12,7 @@ ghost use Rattle.amqp_session_frames.specs.declared.frame.FrameBody.TheVariants 
 
 use crate::items::{
     FIELDS, ROOM, put, put_boolean, put_record, put_uint, read_boolean, read_flag, read_record,
-    read_uint,
+    read_uint, read_uint_or_null, role_of,
 };
 use amqp_session_performatives::Disposition;
 use amqp_session_states::{Accepted, DeliveryState, Modified, Rejected, Released};
@@ -72,7 +71,7 @@ fn read_fields(content: &[u8]) -> Option<DispositionFields>
     let Some((first, rest)) = read_uint(rest) else {
         return None;
     };
-    let Some((last, rest)) = read_last(rest) else {
+    let Some((last, rest)) = read_uint_or_null(rest) else {
         return None;
     };
     let Some((settled, rest)) = read_flag(rest) else {
@@ -88,36 +87,6 @@ fn read_fields(content: &[u8]) -> Option<DispositionFields>
         settled: settled.unwrap_or(false),
         outcome,
     })
-}
-
-/// The role that a boolean says (part 2, 2.8.1).
-#[inline(always)]
-fn role_of(receives: bool) -> Role
-    ensures { role_item result ≡ scalar (boolean receives) }
-{
-    if receives {
-        return Role::Receiver;
-    }
-    Role::Sender
-}
-
-/// The uint that stands in front, or null, and what stands behind it.
-#[inline(always)]
-#[tactic(auto, using(crate::proofs::Fronts::null_forms))]
-fn read_last(bytes: &[u8]) -> Option<(Option<u32>, &[u8])>
-    ensures { IfSome result (λ p.
-        Front (option_item (λ n. scalar (uint n)) p.0) bytes.now p.1.now) }
-{
-    let Some((code, rest)) = bytes.split_first() else {
-        return None;
-    };
-    if *code == 0x40 {
-        return Some((None, rest));
-    }
-    let Some((last, rest)) = read_uint(bytes) else {
-        return None;
-    };
-    Some((Some(last), rest))
 }
 
 /// The outcome without fields that all these bytes are: a descriptor of one byte's code and an empty list.

@@ -4,6 +4,7 @@ ghost use Rattle.amqp_session_frames.specs.Body.{BodyRefused, Performed, Perform
 ghost use Rattle.amqp_session_frames.specs.Text.{BodyText, FrameText, IsNoEmpty, NotRead, empty_on};
 ghost use Rattle.amqp_session_performatives.specs.declared.performative.Performative.TheVariants as performing;
 
+use crate::common_attach::{self, read_attach};
 use crate::common_disposition::{self, read_disposition};
 use crate::common_transfer::{self, read_transfer};
 use crate::error::Error;
@@ -81,6 +82,11 @@ fn read_body(alloc: Global, content: Bytes) -> Result<FrameBody, Error>
     if has_code(content.as_slice(), common_disposition::CODE) {
         if let Some(disposition) = read_disposition(content.as_slice()) {
             return Ok(FrameBody::Disposition(disposition));
+        }
+    }
+    if has_code(content.as_slice(), common_attach::CODE) {
+        if let Some(attach) = read_attach(alloc, content.as_slice()) {
+            return Ok(FrameBody::Attach(attach));
         }
     }
     let (performative, read) = read_performative(alloc, content.as_slice())?;

@@ -1,11 +1,14 @@
 //! Items of the common forms of performatives, read of bytes by hand, beside `Deserialize`, and written by hand, beside
 //! `Serialize` (part 1, 1.6).
 ghost use Rattle.std.specs.Prelude.{◌+◌, ◌<◌, ◌≡◌, ◌≤◌, ◌^◌, IfSome, IsTrue, [], drop, length, slice_range};
-ghost use Rattle.serde_amqp_item.specs.Item.{scalar, boolean, uint, binary};
-ghost use Rattle.amqp_session_frames.specs.Items.{Counted, FourFront, Front, Puts, RecordFront, binary_text, boolean_text};
-ghost use Rattle.amqp_session_frames.specs.Items.{flag_item, short_record, uint_text};
+ghost use Rattle.serde_amqp_item.specs.Item.{scalar, boolean, null, ubyte, uint, ulong, binary, string};
+ghost use Rattle.serde_amqp_item.specs.Record.{option_item};
+ghost use Rattle.amqp_session_types.specs.Modes.{role_item};
+ghost use Rattle.amqp_session_frames.specs.Items.{Counted, EightFront, FourFront, Front, Puts, RecordFront};
+ghost use Rattle.amqp_session_frames.specs.Items.{binary_text, boolean_text, flag_item, short_record, uint_text};
 
 use crate::header::HEADER_SIZE;
+use amqp_session_types::Role;
 
 /// How many fields the record has that stands in front with this descriptor as a list of one byte's size and count, and
 /// their bytes (part 1, 1.4 and 1.6.22). None where it is in another form, or where there is none.
@@ -81,6 +84,146 @@ fn read_four(bytes: &[u8]) -> Option<(u32, &[u8])>
     Some((number, &bytes[4..]))
 }
 
+/// The uint that stands in front, or null, and what stands behind it.
+#[inline(always)]
+#[tactic(auto, using(crate::proofs::Fronts::null_forms))]
+pub(crate) fn read_uint_or_null(bytes: &[u8]) -> Option<(Option<u32>, &[u8])>
+    ensures { IfSome result (λ p.
+        Front (option_item (λ n. scalar (uint n)) p.0) bytes.now p.1.now) }
+{
+    let Some((code, rest)) = bytes.split_first() else {
+        return None;
+    };
+    if *code == 0x40 {
+        return Some((None, rest));
+    }
+    let Some((number, rest)) = read_uint(bytes) else {
+        return None;
+    };
+    Some((Some(number), rest))
+}
+
+/// The ulong that stands in front (part 1, 1.6.6), and what stands behind it.
+#[inline(always)]
+#[tactic(auto, using(crate::proofs::Fronts::ulong_forms))]
+fn read_ulong(bytes: &[u8]) -> Option<(u64, &[u8])>
+    ensures { IfSome result (λ p. Front (scalar (ulong p.0)) bytes.now p.1.now) }
+{
+    let Some((code, rest)) = bytes.split_first() else {
+        return None;
+    };
+    let code = *code;
+    if code == 0x44 {
+        return Some((0, rest));
+    }
+    if code == 0x53 {
+        let Some((number, rest)) = rest.split_first() else {
+            return None;
+        };
+        return Some((*number as u64, rest));
+    }
+    if code != 0x80 {
+        return None;
+    }
+    let Some((number, rest)) = read_eight(rest) else {
+        return None;
+    };
+    Some((number, rest))
+}
+
+/// The number of eight bytes that stands in front, and what stands behind it.
+#[inline(always)]
+#[tactic(auto, using(crate::proofs::Fronts::eight_found))]
+fn read_eight(bytes: &[u8]) -> Option<(u64, &[u8])>
+    ensures { IfSome result (λ p. EightFront p.0 bytes.now p.1.now) }
+{
+    if bytes.len() < 8 {
+        return None;
+    }
+    let number = u64::from_be_bytes([
+        bytes[0], bytes[1], bytes[2], bytes[3], bytes[4], bytes[5], bytes[6], bytes[7],
+    ]);
+    Some((number, &bytes[8..]))
+}
+
+/// The ulong that stands in front, or null, and what stands behind it.
+#[inline(always)]
+#[tactic(auto, using(crate::proofs::Fronts::null_forms))]
+pub(crate) fn read_ulong_or_null(bytes: &[u8]) -> Option<(Option<u64>, &[u8])>
+    ensures { IfSome result (λ p.
+        Front (option_item (λ n. scalar (ulong n)) p.0) bytes.now p.1.now) }
+{
+    let Some((code, rest)) = bytes.split_first() else {
+        return None;
+    };
+    if *code == 0x40 {
+        return Some((None, rest));
+    }
+    let Some((number, rest)) = read_ulong(bytes) else {
+        return None;
+    };
+    Some((Some(number), rest))
+}
+
+/// The ubyte that stands in front (part 1, 1.6.4), or null, and what stands behind it.
+#[inline(always)]
+#[tactic(auto, using(crate::proofs::Fronts::ubyte_forms))]
+pub(crate) fn read_ubyte_or_null(bytes: &[u8]) -> Option<(Option<u8>, &[u8])>
+    ensures { IfSome result (λ p.
+        Front (option_item (λ n. scalar (ubyte n)) p.0) bytes.now p.1.now) }
+{
+    let Some((code, rest)) = bytes.split_first() else {
+        return None;
+    };
+    let code = *code;
+    if code == 0x40 {
+        return Some((None, rest));
+    }
+    if code != 0x50 {
+        return None;
+    }
+    let Some((number, rest)) = rest.split_first() else {
+        return None;
+    };
+    Some((Some(*number), rest))
+}
+
+/// What stands behind the null that stands in front (part 1, 1.6.1).
+#[inline(always)]
+#[tactic(auto, using(crate::proofs::Fronts::null_forms))]
+pub(crate) fn read_null(bytes: &[u8]) -> Option<&[u8]>
+    ensures { IfSome result (λ rest. Front (scalar null) bytes.now rest.now) }
+{
+    let Some((code, rest)) = bytes.split_first() else {
+        return None;
+    };
+    if *code != 0x40 {
+        return None;
+    }
+    Some(rest)
+}
+
+/// The string of one byte's size that stands in front (part 1, 1.6.20), and what stands behind it.
+#[inline(always)]
+#[tactic(auto, using(crate::proofs::Fronts::string_form))]
+pub(crate) fn read_text(bytes: &[u8]) -> Option<(&str, &[u8])>
+    ensures { IfSome result (λ p. Front (scalar (string p.0.now)) bytes.now p.1.now) }
+{
+    let Some((code, rest)) = bytes.split_first() else {
+        return None;
+    };
+    if *code != 0xa1 {
+        return None;
+    }
+    let Some((content, rest)) = read_counted(rest) else {
+        return None;
+    };
+    let Ok(text) = str::from_utf8(content) else {
+        return None;
+    };
+    Some((text, rest))
+}
+
 /// The binary of one byte's size that stands in front (part 1, 1.6.19), and what stands behind it.
 #[inline(always)]
 #[tactic(auto, using(crate::proofs::Fronts::binary_form))]
@@ -150,6 +293,17 @@ pub(crate) fn read_flag(bytes: &[u8]) -> Option<(Option<bool>, &[u8])>
         return None;
     };
     Some((Some(flag), rest))
+}
+
+/// The role that a boolean says (part 2, 2.8.1).
+#[inline(always)]
+pub(crate) fn role_of(receives: bool) -> Role
+    ensures { role_item result ≡ scalar (boolean receives) }
+{
+    if receives {
+        return Role::Receiver;
+    }
+    Role::Sender
 }
 
 /// Whether no bytes are left.

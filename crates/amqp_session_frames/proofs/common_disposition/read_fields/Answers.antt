@@ -8,7 +8,7 @@ returns c =
     c.in-Some.ensures (search rules)
     c.in-Some-read_boolean.ensures
     c.in-Some-read_uint.ensures
-    c.in-Some-read_last.ensures
+    c.in-Some-read_uint_or_null.ensures
     c.in-Some-read_flag.ensures
     c.in-Some-read_outcome.ensures
     c.role_of.ensures (search rules)
