@@ -73,18 +73,3 @@ pub appended_is : (least room : ℕ) (f : Frame) (left : Option ℕ) (old new : 
 appended_is least room f left old new a =
     let P : List ℕ → Type 0 = λ text. AppendedIn room text left old new in
     subst P (sym (written_is f a.text a.is)) a.appended
-
-within_limit : (f : Frame) (limit : ℕ) (o : Option (List ℕ)) → frame_text f ≡ o → text_fits limit o ≡ true
-    → length (written f) ≤ limit
-within_limit f limit None is fit = let wrong : false ≡ true = fit in absurd (cc)
-within_limit f limit (Some text) is fit =
-    let short : length text ≤ limit = grind (arith, nat_tests) in
-    omega (arith, short, ap length (written_is f text is))
-
--- a frame that fits has room in so many bytes as the limit
-pub all_appended : (limit room : ℕ) (f : Frame) (left : Option ℕ) (old new : List ℕ) → fits limit f ≡ true
-    → room ≡ limit
-    → AppendedIn room (written f) left old new → old ≡ [] → new ≡ written f
-all_appended limit room f None old new fit is a none =
-    absurd (omega (arith, a.0, is, within_limit f limit (frame_text f) refl fit))
-all_appended limit room f (Some left) old new fit is a none = a.1 ∙ ap (λ (l : List ℕ). l ++ written f) none

@@ -40,6 +40,23 @@ pub record Fills (most : ℕ) (queue : List Waiting) (count : ℕ) : Type 0 wher
   pub short : length (texts_of (take count queue)) ≤ most
   pub longest : count < length queue → most < length (texts_of (take (count + 1) queue))
 
+-- so many that wait first are no more than `most` bytes together, but for so many, and with one more, if there is one,
+-- they are; their bytes are appended to these
+pub record FillsUp (most : ℕ) (waiting : List Waiting) (count room : ℕ) (bytes bytes_new : List ℕ) : Type 0 where
+  pub there : count ≤ length waiting
+  pub left : length (texts_of (take count waiting)) + room ≡ most
+  pub longest : count < length waiting → most < length (texts_of (take (count + 1) waiting))
+  pub appended : bytes_new ≡ bytes ++ texts_of (take count waiting)
+
+-- so many of what is queued are, and where that is all of it, so many of what sessions sent
+pub record FillsBoth (most : ℕ) (queue : List Waiting) (out : List SessionFrame) (queued sent : ℕ)
+    (bytes bytes_new : List ℕ) : Type 0 where
+  pub there : queued ≤ length queue
+  pub others : sent ≤ length out
+  pub behind : 0 < sent → queued ≡ length queue
+  pub fills : Fills most (queue ++ frames_waiting out) (queued + sent)
+  pub appended : bytes_new ≡ bytes ++ texts_of (take (queued + sent) (queue ++ frames_waiting out))
+
 -- so many that were queued first are taken out, and their bytes are appended to these
 pub record PullsInto {S : Type 0} (most : ℕ) (old : State S) (bytes : List ℕ) (count : ℕ) (new : State S)
     (bytes_new : List ℕ) : Type 0 where

@@ -184,14 +184,13 @@ impl<S: SessionRelay> Endpoint<S> {
     /// What `pull` would give, which stays queued.
     ///
     /// `Memory` where there is no memory for the bytes.
-    pub fn peek(&mut self) -> Result<Option<Vec<u8>>, EndpointError>
-        ensures ok { IfOk result (λ seen. MatchOption seen (self.old.queue ≡ [])
-            (λ bytes. (first : Waiting) × IsFirst self.old.queue first × (bytes.items ≡ text_of first))) }
+    pub fn peek(&self) -> Result<Option<Vec<u8>>, EndpointError>
+        ensures ok { IfOk result (λ seen. MatchOption seen (self.now.queue ≡ [])
+            (λ bytes. (first : Waiting) × IsFirst self.now.queue first × (bytes.items ≡ text_of first))) }
         ensures err { IfErr result (λ e. e ≡ Memory) }
-        ensures same { self.new ≡ self.old }
     {
         let limit = self.limit();
-        first_bytes(self.alloc, limit, &mut self.queue, &mut self.out)
+        first_bytes(self.alloc, limit, &self.queue, &self.out)
     }
 
     /// Takes out what was queued first, if something is. It takes no memory.

@@ -65,23 +65,17 @@ impl Queued {
         let SessionFrame { channel, body } = frame;
         Queued::frame(Frame::new(channel, body_of(body)))
     }
+}
 
-    /// The bytes: those of a frame are at most `limit`. It is refused where there is no memory for them.
-    pub(crate) fn to_vec(&self, alloc: Global, limit: u32) -> Result<Vec<u8>, EndpointError>
-        requires least { 512 ≤ limit }
-        requires within { IsWithin limit self.now }
-        ensures ok { IfOk result (λ v. v.items ≡ text_of self.now) }
-        ensures err { IfErr result (λ e. e ≡ Memory) }
-    {
-        match &self.content {
-            Content::Header => Ok(Vec::from_slice(alloc, PROTOCOL_HEADER)?),
-            Content::Frame(frame) => frame_bytes(alloc, limit, frame),
-        }
-    }
+/// What waits to be pulled. It is written where it lies.
+pub(crate) trait Waits: Sized {
+    /// What it is that waits.
+    ghost waits: { Self → Waiting };
 
     /// Appends the bytes to `bytes`, where they are at most `room`, and answers the room that is left then. None where
-    /// they are more. Where it answers no room, `bytes` is as before, as it is where there is no memory for them.
-    pub(crate) fn append_to(
+    /// they are more. Where it answers no room, `bytes` is as before, as it is where there is no memory for them. Those
+    /// of a frame are at most `limit`.
+    fn append_to(
         &self,
         alloc: Global,
         limit: u32,
@@ -89,11 +83,22 @@ impl Queued {
         bytes: &mut Vec<u8>,
     ) -> Result<Option<usize>, EndpointError>
         requires least { 512 ≤ limit }
-        requires within { IsWithin limit self.now }
+        requires within { IsWithin limit (waits self.now) }
         ensures ok { IfOk result (λ left.
-            AppendedIn room (text_of self.now) left (bytes.old.items) (bytes.new.items)) }
-        ensures err { IfErr result (λ e. (e ≡ Memory) × (bytes.new.items ≡ bytes.old.items)) }
-    {
+            AppendedIn room (text_of (waits self.now)) left (bytes.old.items) (bytes.new.items)) }
+        ensures err { IfErr result (λ e. (e ≡ Memory) × (bytes.new.items ≡ bytes.old.items)) };
+}
+
+impl Waits for Queued {
+    ghost waits = { λ q. q };
+
+    fn append_to(
+        &self,
+        alloc: Global,
+        limit: u32,
+        room: usize,
+        bytes: &mut Vec<u8>,
+    ) -> Result<Option<usize>, EndpointError> {
         match &self.content {
             Content::Header => append_header(room, bytes),
             Content::Frame(frame) => append_frame(alloc, limit, room, frame, bytes),
@@ -101,45 +106,61 @@ impl Queued {
     }
 }
 
-/// Puts the frame that sessions sent first behind what waits, where nothing else does. Nothing changes where there is
-/// no memory.
-fn advance(queue: &mut VecDeque<Queued>, out: &mut VecDeque<SessionFrame>) -> Result<(), AllocError>
-    ensures same { queue.new.items ++ frames_waiting out.new.items ≡ queue.old.items
-        ++ frames_waiting out.old.items }
-    ensures first { OnOk result (queue.new.items ≡ [] → out.new.items ≡ []) }
-{
-    if !queue.is_empty() {
-        return Ok(());
+impl Waits for SessionFrame {
+    ghost waits = { λ frame. waiting_of frame };
+
+    #[tactic(auto, using(crate::proofs::CodingLaws::appended_is, crate::proofs::CodingLaws::not_over))]
+    fn append_to(
+        &self,
+        alloc: Global,
+        limit: u32,
+        room: usize,
+        bytes: &mut Vec<u8>,
+    ) -> Result<Option<usize>, EndpointError> {
+        let encoder = FrameEncoder::new(limit as usize - SIZE_FIELD);
+        match encoder.append_sent(alloc, self, room, bytes) {
+            Ok(left) => Ok(left),
+            Err(FrameError::TooLarge) => Err(EndpointError::FrameTooLarge),
+            Err(_) => Err(EndpointError::Memory),
+        }
     }
-    queue.reserve(1)?;
-    let Some(frame) = out.pop_front() else {
-        return Ok(());
-    };
-    queue.push_back_reserved(Queued::of_session(frame));
-    Ok(())
+}
+
+/// The bytes of what waits, at most `limit` of them. It is refused where there is no memory for them.
+#[tactic(auto, using(crate::proofs::BatchLaws::all_taken))]
+fn bytes_of<W: Waits>(alloc: Global, limit: u32, waiting: &W) -> Result<Vec<u8>, EndpointError>
+    requires least { 512 ≤ limit }
+    requires within { IsWithin limit (W.waits waiting.now) }
+    ensures ok { IfOk result (λ v. v.items ≡ text_of (W.waits waiting.now)) }
+    ensures err { IfErr result (λ e. e ≡ Memory) }
+{
+    let mut bytes = Vec::new(alloc);
+    // the limit is room enough for what is within it
+    let _ = waiting.append_to(alloc, limit, limit as usize, &mut bytes)?;
+    Ok(bytes)
 }
 
 /// The bytes of what waits first, which stays there. None where nothing waits. It is refused where there is no memory.
 pub(crate) fn first_bytes(
     alloc: Global,
     limit: u32,
-    queue: &mut VecDeque<Queued>,
-    out: &mut VecDeque<SessionFrame>,
+    queue: &VecDeque<Queued>,
+    out: &VecDeque<SessionFrame>,
 ) -> Result<Option<Vec<u8>>, EndpointError>
     requires least { 512 ≤ limit }
-    requires within { AllWithin limit (queue.old.items ++ frames_waiting out.old.items) }
-    ensures ok { IfOk result (λ seen. MatchOption seen ((queue.old.items ++ frames_waiting out.old.items) ≡ [])
-        (λ bytes. (first : Waiting) × IsFirst (queue.old.items ++ frames_waiting out.old.items) first
+    requires within { AllWithin limit (queue.now.items ++ frames_waiting out.now.items) }
+    ensures ok { IfOk result (λ seen. MatchOption seen ((queue.now.items ++ frames_waiting out.now.items) ≡ [])
+        (λ bytes. (first : Waiting) × IsFirst (queue.now.items ++ frames_waiting out.now.items) first
         × (bytes.items ≡ text_of first))) }
     ensures err { IfErr result (λ e. e ≡ Memory) }
-    ensures same { queue.new.items ++ frames_waiting out.new.items ≡ queue.old.items
-        ++ frames_waiting out.old.items }
 {
-    advance(queue, out)?;
-    let Some(first) = queue.front() else {
+    if let Some(first) = queue.front() {
+        return Ok(Some(bytes_of(alloc, limit, first)?));
+    }
+    let Some(first) = out.front() else {
         return Ok(None);
     };
-    Ok(Some(first.to_vec(alloc, limit)?))
+    Ok(Some(bytes_of(alloc, limit, first)?))
 }
 
 /// Takes out what waits first, if something does.
@@ -187,20 +208,6 @@ pub(crate) fn gather(
         queue.push_back_reserved(Queued::of_session(frame));
     }
     Ok(())
-}
-
-/// What a frame that fits the limit is written as.
-#[tactic(auto, using(crate::proofs::CodingLaws::all_appended))]
-fn frame_bytes(alloc: Global, limit: u32, frame: &Frame) -> Result<Vec<u8>, EndpointError>
-    requires least { 512 ≤ limit }
-    requires short { fits limit frame.now ≡ true }
-    ensures ok { IfOk result (λ v. v.items ≡ written frame.now) }
-    ensures err { IfErr result (λ e. e ≡ Memory) }
-{
-    let mut bytes = Vec::new(alloc);
-    // the limit is room enough for a frame within it
-    let _ = append_frame(alloc, limit, limit as usize, frame, &mut bytes)?;
-    Ok(bytes)
 }
 
 /// What a frame says that says this of a session.

@@ -3,12 +3,10 @@ use Rattle.std.specs.Prelude.{ℕ, Bool, true, false, List, [], ◌∷◌, lengt
 use Rattle.amqp_session_types.specs.declared.error.Error.{Error}
 use Rattle.amqp_session_frames.specs.declared.frame.Frame.{Frame}
 use Rattle.amqp_session_frames.specs.declared.frame.FrameBody.{FrameBody}
-use Rattle.amqp_session_frames.specs.declared.frame.FrameBody.TheVariants.{Empty, Open, Begin, Attach, Flow, Transfer}
-use Rattle.amqp_session_frames.specs.declared.frame.FrameBody.TheVariants.{Disposition, Detach, End, Close}
+use Rattle.amqp_session_frames.specs.declared.frame.FrameBody.TheVariants.{Empty, Open, Close}
 use Rattle.amqp_session_performatives.specs.declared.session_frame.SessionFrame.{SessionFrame}
-use Rattle.amqp_session_performatives.specs.declared.session_frame.SessionFrameBody.{SessionFrameBody}
-use Rattle.amqp_session_performatives.specs.declared.session_frame.SessionFrameBody.TheVariants as session
 use Rattle.amqp_session_frames.specs.Text.{frame_text}
+pub use Rattle.amqp_session_frames.specs.OfSession.{body_of, frame_of}
 use Rattle.amqp_endpoint_model.specs.declared.settings.Settings.{Settings}
 use Rattle.amqp_endpoint_model.specs.declared.phase.Phase.{Phase}
 use Rattle.amqp_endpoint_model.specs.declared.phase.Phase.TheVariants.{Unconnected, Running, Over}
@@ -82,19 +80,7 @@ abbrev pub text_of : Waiting → List ℕ
 text_of the_header = protocol_header
 text_of (the_frame f) = written f
 
--- a frame of a session (part 2, 2.3.2)
-abbrev pub body_of : SessionFrameBody → FrameBody
-body_of (session.Begin begin) = Begin begin
-body_of (session.Attach attach) = Attach attach
-body_of (session.Flow flow) = Flow flow
-body_of (session.Transfer transfer payload) = Transfer transfer payload
-body_of (session.Disposition disposition) = Disposition disposition
-body_of (session.Detach detach) = Detach detach
-body_of (session.End end) = End end
-
-abbrev pub frame_of : SessionFrame → Frame
-frame_of f = record { channel = f.channel; body = body_of f.body }
-
+-- what a session handed out
 abbrev pub waiting_of : SessionFrame → Waiting
 waiting_of f = the_frame (frame_of f)
 

@@ -3,7 +3,10 @@ pub mod Text
 pub mod Parts
 pub mod Header
 pub mod Body
+pub mod OfSession
 pub mod Items
+pub mod CommonTerminus
+pub mod CommonAttach
 pub mod CommonTransfer
 pub mod CommonDisposition
 pub mod Sizes

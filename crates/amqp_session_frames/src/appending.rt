@@ -4,6 +4,7 @@ ghost use Rattle.std.specs.Prelude.{◌∷◌, ◌+◌, ◌++◌, ◌≡◌, ◌
 ghost use Rattle.serde_amqp_item.specs.Canon.{canon};
 ghost use Rattle.amqp_session_frames.specs.Appending.{HasWholeSize, IsAppended, IsBody, IsLaidIn, IsLaidOut};
 ghost use Rattle.amqp_session_frames.specs.Appending.{NotAppended, StandInFront};
+ghost use Rattle.amqp_session_frames.specs.OfSession.{frame_of};
 ghost use Rattle.amqp_session_frames.specs.Sizes.{Appends, HasText, NotWhole, Overflows};
 ghost use Rattle.amqp_session_frames.specs.declared.error.Error.TheVariants.{Memory, TooLarge};
 ghost use Rattle.amqp_session_frames.specs.declared.frame.FrameBody.TheVariants.{Empty};
@@ -12,6 +13,7 @@ use crate::encoder::{DATA_OFFSET, FrameEncoder, fits, size_of};
 use crate::error::Error;
 use crate::frame::{Frame, FrameBody};
 use crate::header::{AMQP_TYPE, HEADER_SIZE};
+use amqp_session_performatives::{SessionFrame, SessionFrameBody};
 use serde_amqp_ser::{Serialize, Serializer};
 use std::alloc::Global;
 
@@ -53,6 +55,43 @@ impl FrameEncoder {
             FrameBody::Detach(detach) => self.append_whole(alloc, channel, detach, &[], room, out),
             FrameBody::End(end) => self.append_whole(alloc, channel, end, &[], room, out),
             FrameBody::Close(close) => self.append_whole(alloc, channel, close, &[], room, out),
+        }
+    }
+
+    /// Appends what a session hands out to `out`, as [`append`](FrameEncoder::append) does the frame that says the same.
+    /// It is written where it lies.
+    pub fn append_sent(
+        &self,
+        alloc: Global,
+        frame: &SessionFrame,
+        room: usize,
+        out: &mut Vec<u8>,
+    ) -> Result<Option<usize>, Error>
+        ensures ok { IfOk result (λ left.
+            IsAppended self.now (frame_of frame.now) room left out.old.items out.new.items) }
+        ensures refused { IfErr result (λ e. NotAppended self.now (frame_of frame.now) e) }
+        ensures same { OnErr result (out.new.items ≡ out.old.items) }
+    {
+        let channel = frame.channel;
+        match &frame.body {
+            SessionFrameBody::Begin(begin) => {
+                self.append_whole(alloc, channel, begin, &[], room, out)
+            }
+            SessionFrameBody::Attach(attach) => {
+                self.append_whole(alloc, channel, attach, &[], room, out)
+            }
+            SessionFrameBody::Flow(flow) => self.append_whole(alloc, channel, flow, &[], room, out),
+            SessionFrameBody::Transfer {
+                performative,
+                payload,
+            } => self.append_transfer(alloc, channel, performative, payload.as_slice(), room, out),
+            SessionFrameBody::Disposition(disposition) => {
+                self.append_disposition(alloc, channel, disposition, room, out)
+            }
+            SessionFrameBody::Detach(detach) => {
+                self.append_whole(alloc, channel, detach, &[], room, out)
+            }
+            SessionFrameBody::End(end) => self.append_whole(alloc, channel, end, &[], room, out),
         }
     }
 

@@ -1,10 +1,8 @@
 use Rattle.std.proofs.Common.{refl, arith}
-use Rattle.amqp_endpoint_core.specs.Queue.{frames_waiting}
-use Rattle.amqp_endpoint_core.proofs.QueueLaws.{within-seen}
+use Rattle.amqp_endpoint_core.proofs.BatchLaws.{first_within}
 use Rattle.amqp_endpoint_core.proofs.queued.first_bytes.Goals as goal
 
-pub to_vec-requires-clause-within : goal.to_vec-requires-clause-within
-to_vec-requires-clause-within c =
-    within-seen c.args.limit c.advance.new.queue.items (frames_waiting c.advance.new.out.items) _ c.in-Some.first.now
-    c.requires.within c.in_ok-advance.ensures.same
-    (omega (arith, c.advance.new.queue.ok.0, c.in-Some.ensures.variant.0 refl)) c.in-Some.ensures.lookup
+pub bytes_of-requires-2-clause-within : goal.bytes_of-requires-2-clause-within
+bytes_of-requires-2-clause-within c =
+    first_within c.args.limit c.args.queue.now.items c.args.out.now.items c.in-Some-front.first.now c.requires.within
+    (omega (arith, c.args.out.now.ok.0, c.in-Some-front.ensures.variant.0 refl)) c.in-Some-front.ensures.lookup
