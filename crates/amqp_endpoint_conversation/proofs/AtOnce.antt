@@ -69,7 +69,7 @@ module _ {A S : Type 0} (s : State A S) (n : ℕ) where
       by (Some (Over p c)) e q = absurd (none-some _ q)
 
   -- one that has begun isn't asked for
-  unasked : (y : S) → live_at s n ≡ Some y → is_some (asked_at s n) ≡ false
+  pub unasked : (y : S) → live_at s n ≡ Some y → is_some (asked_at s n) ≡ false
   unasked y live = by (slice_get s.places n) live
     where
       by : (o : Option (Place A S)) → live_of o ≡ Some y → is_some (asked_of o) ≡ false
@@ -81,7 +81,7 @@ module _ {A S : Type 0} (s : State A S) (n : ℕ) where
 
 module _ {R : Type 0} (old new : Conversation R) where
   -- nothing changes, or a session does in which what waits stays
-  stays-goes : (limit : ℕ) (out : List SessionFrame) → Keeps (Holds (FitsIn limit)) old.sessions new.sessions
+  pub stays-goes : (limit : ℕ) (out : List SessionFrame) → Keeps (Holds (FitsIn limit)) old.sessions new.sessions
       → Goes limit old new out out
   stays-goes limit out keeps =
       record {

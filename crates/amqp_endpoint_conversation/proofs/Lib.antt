@@ -1,4 +1,5 @@
 mod AtOnce
+mod OneSettled
 mod Answering
 mod Conditions
 mod Hearings

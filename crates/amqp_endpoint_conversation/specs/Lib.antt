@@ -3,6 +3,7 @@ pub mod Ending
 pub mod Faults
 pub mod Hearing
 pub mod AtOnce
+pub mod OneSettled
 pub mod Going
 pub mod Clearing
 pub mod Inside

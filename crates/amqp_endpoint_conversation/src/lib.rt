@@ -13,6 +13,7 @@ mod faults;
 mod hearing;
 pub mod laws;
 mod saying;
+mod settled;
 
 pub use beginning::{AcceptRefusal, BeginHeard, BeginRefusal};
 pub use calling::{accept, begin, end, fail};

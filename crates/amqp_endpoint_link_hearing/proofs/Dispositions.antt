@@ -11,9 +11,10 @@ use Rattle.amqp_session_types.specs.declared.handles.OutputHandle.{OutputHandle}
 use Rattle.amqp_session_states.specs.declared.delivery_state.DeliveryState.{DeliveryState}
 use Rattle.amqp_session_performatives.specs.declared.disposition.Disposition.{Disposition}
 use Rattle.amqp_session_performatives.specs.declared.session_frame.SessionFrame.{SessionFrame}
+use Rattle.amqp_session_core.specs.Disposing.{AreTouched}
 use Rattle.amqp_session_core.specs.Echoes.{echo_of}
 use Rattle.amqp_session_core.specs.State.{link_at}
-use Rattle.amqp_session_core.specs.Steps.{Changes, SendsDisposition}
+use Rattle.amqp_session_core.specs.Steps.{Changes, SendsDisposition, table_of}
 use Rattle.amqp_session_core.specs.declared.dispositions.Touched.{Touched}
 use Rattle.amqp_endpoint_links.specs.History.{AskingHistory, InSession}
 use Rattle.amqp_endpoint_links.specs.declared.hearing.LinkPerformative.TheVariants as said
@@ -185,6 +186,9 @@ module _ (deliveries : List Touched) (state : Option DeliveryState) (runs : List
               (going-fit limit state fields asked small));
         }
 
+    pub told-goes : (limit : ℕ) → Goes limit old new out out
+    told-goes limit = subst (Goes limit old new out) (append-nil out) (stills limit)
+
     pub echoed-can : (c : Closing) → MadeIn old session c → CanClose new session c
     echoed-can c made =
         let g = t.is_so in
@@ -295,6 +299,72 @@ module _ (limit : ℕ) (old : Talk) (channel : IncomingChannel) (out : List Sess
   no-ready : Prepares limit old channel it None → ⊥
   no-ready p = p session taken-there.before taken-there.reaches taken-there.live
 
+  -- what comes of it, where these are the deliveries that it reaches
+  module _ (deliveries : List Touched)
+      (are : AreTouched it (table_of it.role (taken-there.before).value.session) deliveries) where
+    -- what it tells are the outcomes of what the Disposition ends
+    module _ (state : Option DeliveryState) (sent : List (ℕ × ℕ)) (frames : List SessionFrame) (events : List Event)
+        (new : Talk) (g : GoesOn (TellsAndEchoes deliveries state sent frames events) mid session new) where
+      same-session : (a b : Session) → Some a ≡ Some b → a.value.session ≡ b.value.session
+      same-session a b same = ap (λ (x : Session). x.value.session) (same_Some a b same)
+
+      behind-hearing : (g.before).value.session ≡ ((taken-there.takes).after).value.session
+      behind-hearing =
+          same-session g.before (taken-there.takes).after (sym (g.stepped).0 ∙ taken-there.stands)
+
+      outcomes-so : NoneUntold (taken-there.before).value.session
+          → events ≡ outcomes_told it (taken-there.before).value.session deliveries
+      outcomes-so none =
+          (g.done).told
+          ∙ ap (λ (s : LinksIn). reached_told s deliveries) behind-hearing
+          ∙ told-ends it (taken-there.before).value.session ((taken-there.takes).after).value.session
+          (map (echo_of it) runs.items) deliveries none ((((taken-there.takes).hears).heard).0).1
+          are
+
+      none-so : NoneUntold (taken-there.before).value.session → NoneUntold (g.after).value.session
+      none-so none =
+          each-sent (behind_reached (g.before).value.session deliveries) (echoes_of state sent)
+          (g.after).value.session ((g.done).echoes).sends
+          (subst (λ (s : LinksIn). NoneUntold (behind_reached s deliveries)) (sym behind-hearing)
+          (told-all it (taken-there.before).value.session ((taken-there.takes).after).value.session
+          (map (echo_of it) runs.items) deliveries none ((((taken-there.takes).hears).heard).0).1
+          are))
+
+      none-in : NoneUntold (taken-there.before).value.session → NoneUntoldIn new session
+      none-in none s live =
+          let is : s ≡ g.after =
+          same_Some _ _ (sym live ∙ live-behind mid new session g.before g.after g.stepped) in
+          subst (λ (x : Session). NoneUntold x.value.session) (sym is) (none-so none)
+
+    done-by : (frames : List SessionFrame) (events : List Event) (new : Talk)
+        → TellsAndRefuses limit session deliveries it.state runs.items (handles_of deliveries)
+        mid frames events new
+        → DoneIn limit old it session runs.items mid frames events new
+    done-by frames events new d =
+        record {
+          stood = taken-there.before;
+          live = taken-there.live;
+          deliveries = deliveries;
+          are_reached = are;
+          done = d;
+          outcomes = outcomes-so it.state (going limit it.state runs.items) d.sent d.told d.mid d.echoes;
+          all_told = λ none.
+              all-told session (barred limit it.state runs.items) deliveries
+              (handles_of deliveries) d.mid new d.closed d.ended d.refuses
+              (none-in it.state (going limit it.state runs.items) d.sent d.told d.mid d.echoes none);
+        }
+
+  -- the same, where they are those of the session as it stood
+  pub done-at : (stood : Session) → live_at old.sessions session ≡ Some stood → (deliveries : List Touched)
+      → AreTouched it (table_of it.role stood.value.session) deliveries
+      → (frames : List SessionFrame) (events : List Event) (new : Talk)
+      → TellsAndRefuses limit session deliveries it.state runs.items (handles_of deliveries) mid frames events new
+      → DoneIn limit old it session runs.items mid frames events new
+  done-at stood live deliveries are =
+      done-by deliveries
+      (subst (λ (s : Session). AreTouched it (table_of it.role s.value.session) deliveries)
+      (same_Some stood taken-there.before (sym live ∙ taken-there.live)) are)
+
   module _ (ready : Ready) (p : Prepares limit old channel it (Some ready)) where
     is-ready : IsReady limit (taken-there.before).value it ready
     is-ready = p session taken-there.before taken-there.reaches taken-there.live
@@ -340,64 +410,12 @@ module _ (limit : ℕ) (old : Talk) (channel : IncomingChannel) (out : List Sess
           made = made-so;
         }
 
-    -- what it tells are the outcomes of what the Disposition ends
-    module _ (state : Option DeliveryState) (sent : List (ℕ × ℕ)) (frames : List SessionFrame) (events : List Event)
-        (new : Talk) (g : GoesOn (TellsAndEchoes (ready.reached).items state sent frames events) mid session new) where
-      same-session : (a b : Session) → Some a ≡ Some b → a.value.session ≡ b.value.session
-      same-session a b same = ap (λ (x : Session). x.value.session) (same_Some a b same)
-
-      behind-hearing : (g.before).value.session ≡ ((taken-there.takes).after).value.session
-      behind-hearing =
-          same-session g.before (taken-there.takes).after (sym (g.stepped).0 ∙ taken-there.stands)
-
-      outcomes-so : NoneUntold (taken-there.before).value.session
-          → events ≡ outcomes_told it (taken-there.before).value.session (ready.reached).items
-      outcomes-so none =
-          (g.done).told
-          ∙ ap (λ (s : LinksIn). reached_told s (ready.reached).items) behind-hearing
-          ∙ told-ends it (taken-there.before).value.session ((taken-there.takes).after).value.session
-          (map (echo_of it) runs.items) (ready.reached).items none ((((taken-there.takes).hears).heard).0).1
-          is-ready.deliveries
-
-      none-so : NoneUntold (taken-there.before).value.session → NoneUntold (g.after).value.session
-      none-so none =
-          each-sent (behind_reached (g.before).value.session (ready.reached).items) (echoes_of state sent)
-          (g.after).value.session ((g.done).echoes).sends
-          (subst (λ (s : LinksIn). NoneUntold (behind_reached s (ready.reached).items)) (sym behind-hearing)
-          (told-all it (taken-there.before).value.session ((taken-there.takes).after).value.session
-          (map (echo_of it) runs.items) (ready.reached).items none ((((taken-there.takes).hears).heard).0).1
-          is-ready.deliveries))
-
-      none-in : NoneUntold (taken-there.before).value.session → NoneUntoldIn new session
-      none-in none s live =
-          let is : s ≡ g.after =
-          same_Some _ _ (sym live ∙ live-behind mid new session g.before g.after g.stepped) in
-          subst (λ (x : Session). NoneUntold x.value.session) (sym is) (none-so none)
-
-    done-by : (frames : List SessionFrame) (events : List Event) (new : Talk)
-        → TellsAndRefuses limit session (ready.reached).items it.state runs.items (handles_of (ready.reached).items)
-        mid frames events new
-        → DoneIn limit old it session runs.items mid frames events new
-    done-by frames events new d =
-        record {
-          stood = taken-there.before;
-          live = taken-there.live;
-          deliveries = (ready.reached).items;
-          are_reached = is-ready.deliveries;
-          done = d;
-          outcomes = outcomes-so it.state (going limit it.state runs.items) d.sent d.told d.mid d.echoes;
-          all_told = λ none.
-              all-told session (barred limit it.state runs.items) (ready.reached).items
-              (handles_of (ready.reached).items) d.mid new d.closed d.ended d.refuses
-              (none-in it.state (going limit it.state runs.items) d.sent d.told d.mid d.echoes none);
-        }
-
     done-in : (frames : List SessionFrame) (events : List Event) (new : Talk)
         → TellsAndRefuses limit session (ready.reached).items (ready.echoes).state runs.items
         (handles_of (ready.reached).items) mid frames events new
         → DoneIn limit old it session runs.items mid frames events new
     done-in frames events new d =
-        done-by frames events new
+        done-by (ready.reached).items is-ready.deliveries frames events new
         (subst
         (λ (state : Option DeliveryState).
         TellsAndRefuses limit session (ready.reached).items state runs.items (handles_of (ready.reached).items) mid

@@ -20,6 +20,7 @@ pub mod Reached
 mod AttachReadied
 mod AttachServes
 mod Dispositions
+mod OneSettled
 mod Stepped
 mod Transfers
 mod Transferred

@@ -18,6 +18,7 @@ ghost use Rattle.amqp_endpoint_link_hearing.specs.Unechoed.{CanClose, MadeIn, ha
 ghost use Rattle.amqp_endpoint_link_hearing.specs.declared.unechoed.Closing.{Closing as Made};
 
 use crate::refusing::refuse;
+use crate::settled::hear_settled;
 use crate::unechoed::{Closing, make_closings, refuse_each, told_most};
 use amqp_endpoint_attached::LinkSession;
 use amqp_endpoint_conversation::{Conversation, Heard};
@@ -62,6 +63,37 @@ struct Ready {
 /// one refuses it that the peer asks for, and with `Memory`. Nothing is handed out or told then, and no link is given
 /// back; nor does a session change, but that where there is no memory one that has begun may have refused it.
 pub fn hear_disposition(
+    talk: &mut Conversation<Numbered<LinkEnd>>,
+    links: &mut Links<LinkEnd>,
+    alloc: Global,
+    limit: u32,
+    channel: IncomingChannel,
+    disposition: Disposition,
+    out: &mut VecDeque<SessionFrame>,
+    events: &mut Vec<Event>,
+) -> Result<(), EndpointError>
+    ensures ok { OnOk result
+        (Tells (λ frames told.
+        HearsDisposition talk.old links.old limit channel disposition frames told talk.new links.new)
+        out.old.items events.old.items out.new.items events.new.items) }
+    ensures err { IfErr result (λ e.
+        IsSessionFault e × RefusesSaid talk.old channel (said.Disposition disposition) e talk.new) }
+    ensures kept { OnErr result ((links.new ≡ links.old) × (out.new.items ≡ out.old.items)
+        × (events.new.items ≡ events.old.items)) }
+    ensures goes { 512 ≤ limit → Goes limit talk.old talk.new out.old.items out.new.items }
+    ensures waits { (most : ℕ) → 512 ≤ most → Within most talk.old → Within most talk.new }
+    ensures rests { Rests talk.old talk.new out.old.items out.new.items }
+{
+    events.reserve(1)?;
+    if hear_settled(talk, channel, &disposition, events) {
+        return Ok(());
+    }
+    hear_any(talk, links, alloc, limit, channel, disposition, out, events)
+}
+
+/// Takes any.
+#[inline(never)]
+fn hear_any(
     talk: &mut Conversation<Numbered<LinkEnd>>,
     links: &mut Links<LinkEnd>,
     alloc: Global,

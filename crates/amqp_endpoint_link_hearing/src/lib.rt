@@ -17,6 +17,7 @@ mod leaving;
 mod naming;
 mod reaching;
 mod refusing;
+mod settled;
 mod transferring;
 mod unechoed;
 

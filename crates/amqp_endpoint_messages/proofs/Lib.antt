@@ -20,6 +20,7 @@ pub mod Unsent
 pub mod Transfers
 pub mod Handing
 pub mod Sent
+pub mod AtOnce
 pub mod AbortsFit
 pub mod Planned
 pub mod Handed

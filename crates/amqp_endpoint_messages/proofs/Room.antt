@@ -1,4 +1,4 @@
--- A short tag leaves room in each frame that a peer takes.
+-- A short tag leaves room in each frame that a peer takes, and for a message that is some bytes shorter than a frame.
 use Rattle.std.proofs.Common.{◌≡◌, ℕ, ◌+◌, ◌-◌, ◌≤◌, ◌<◌, Bool, true, false, List, [], ◌∷◌, length, arith}
 use Rattle.std.proofs.Common.{refl, sym, subst}
 use Rattle.std.specs.Prelude.{◌^◌, ◌==◌, IsSome, Option, Some, None, nat_lt, if◌then◌else◌}
@@ -47,4 +47,35 @@ pub tag-leaves-room : (limit : ℕ) (handle : OutputHandle) (m : Message) (settl
     → IsSome (room_of (first_on handle m settled) limit)
 tag-leaves-room limit handle m settled least link format tag =
     leaves-some limit (canon (transfer_item (measured (first_on handle m settled)))) least
+    (measured-short handle m settled link format tag).within
+
+-- a frame has room for so many bytes
+pub record Holds (n : ℕ) (o : Option ℕ) : Type 0 where
+  pub room : ℕ
+  pub is : o ≡ Some room
+  pub some : 0 < room
+  pub enough : n ≤ room
+
+leaves-enough : (limit n : ℕ) (text : Option (List ℕ)) → n + 128 ≤ limit → Within 57 text
+    → Holds n (room_behind text limit)
+leaves-enough limit n text fits w =
+    subst (λ (o : Option (List ℕ)). Holds n (room_behind o limit)) (sym w.is)
+    (by (limit - 8 - length w.bytes == 0) refl)
+  where
+    by : (b : Bool) → (limit - 8 - length w.bytes == 0) ≡ b
+        → Holds n (if b then None else Some (limit - 8 - length w.bytes))
+    by true e = absurd (not_none (limit - 8 - length w.bytes) (omega (arith, fits, w.short)) e)
+    by false e =
+        record {
+          room = limit - 8 - length w.bytes;
+          is = refl;
+          some = omega (arith, fits, w.short);
+          enough = omega (arith, fits, w.short);
+        }
+
+pub tag-leaves-enough : (limit : ℕ) (handle : OutputHandle) (m : Message) (settled : Bool)
+    → length m.payload + 128 ≤ limit → handle.0 < 2 ^ 32 → m.format < 2 ^ 32 → length m.tag ≤ 32
+    → Holds (length m.payload) (room_of (first_on handle m settled) limit)
+tag-leaves-enough limit handle m settled fits link format tag =
+    leaves-enough limit (length m.payload) (canon (transfer_item (measured (first_on handle m settled)))) fits
     (measured-short handle m settled link format tag).within

@@ -8,6 +8,7 @@ pub mod Outcomes
 pub mod All
 pub mod Echoing
 pub mod Sending
+pub mod SendsAtOnce
 pub mod GivingUp
 pub mod MadeReady
 pub mod SendingOn

@@ -2,12 +2,13 @@
 //! how those that a receiving link took are disposed of (part 2, 2.7.6), and what the owner of a sending link is told
 //! of its own (part 3, 3.4).
 //!
-//! What is sent says specs/Sending.antt. Messages that came are disposed of several at once, all or none, or one: what
-//! each call does say specs/: Disposing and Dispositions, with what it is refused for in Refusals, and what a frame
-//! holds in Longest. Outcomes are told of the messages that a disposition of the peer reaches, and of those that
-//! a link has as it ends: specs/ Reached and All; what is echoed to the peer (part 2, 2.8.3), Echoing. What a link does
-//! once the peer's Attach is taken (part 2, 2.6.13) says GoingOn: which deliveries it gives up, GivingUp; which messages
-//! it sends on once it has credit, and how, SendingOn; and what is made ready for that, MadeReady.
+//! What is sent says specs/Sending.antt, and what is sent as one transfer at once, SendsAtOnce. Messages that came are
+//! disposed of several at once, all or none, or one: what each call does say specs/: Disposing and Dispositions, with
+//! what it is refused for in Refusals, and what a frame holds in Longest. Outcomes are told of the messages that a
+//! disposition of the peer reaches, and of those that a link has as it ends: specs/ Reached and All; what is echoed to
+//! the peer (part 2, 2.8.3), Echoing. What a link does once the peer's Attach is taken (part 2, 2.6.13) says GoingOn:
+//! which deliveries it gives up, GivingUp; which messages it sends on once it has credit, and how, SendingOn; and what
+//! is made ready for that, MadeReady.
 #![tactic(auto)]
 
 mod cutting;
@@ -25,6 +26,7 @@ pub mod outcome_laws;
 mod preparing;
 mod reached;
 mod sending;
+mod sending_at_once;
 mod sending_on;
 mod taking;
 
@@ -41,6 +43,6 @@ pub use looking::is_receiving;
 pub use measuring::delivery_fits;
 pub use one::dispose;
 pub use preparing::send_refusal;
-pub use reached::{reached_by, tell_reached};
+pub use reached::{reached_by, tell_reached, tell_reached_one};
 pub use sending::send;
 pub use sending_on::{FlowReady, SendingOn, make_flow_ready, send_on};

@@ -1,5 +1,5 @@
 //! What a disposition of the peer ends (part 2, 2.6.12, 2.7.6; part 3, 3.4).
-ghost use Rattle.std.specs.Prelude.{◌≡◌, ◌+◌, ◌≤◌, ◌<◌, ◌++◌, IfOk, None, length};
+ghost use Rattle.std.specs.Prelude.{◌≡◌, ◌+◌, ◌≤◌, ◌<◌, ◌++◌, [], ◌∷◌, IfOk, None, length};
 ghost use Rattle.std.specs.Vec.{vec_capacity, vec_len};
 ghost use Rattle.amqp_session_core.specs.Disposing.{AreTouched};
 ghost use Rattle.amqp_session_core.specs.State.{link_at};
@@ -52,6 +52,17 @@ pub fn tell_reached(session: &mut LinkSession, reached: &[Touched], events: &mut
     ensures capacity { vec_capacity events.new ≡ vec_capacity events.old }
 {
     tell_each(&mut session.session, reached, events);
+}
+
+/// The same of one delivery.
+pub fn tell_reached_one(session: &mut LinkSession, reached: &Touched, events: &mut Vec<Event>)
+    requires room { vec_len events.old < vec_capacity events.old }
+    ensures told { events.new.items ≡ events.old.items
+        ++ reached_told session.old.session (reached.now ∷ []) }
+    ensures behind { session.new ≡ record session.old
+        { session = behind_reached session.old.session (reached.now ∷ []) } }
+{
+    tell_one(&mut session.session, reached.handle, &reached.tag, events);
 }
 
 /// The same of the session alone.

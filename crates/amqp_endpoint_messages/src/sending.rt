@@ -10,6 +10,7 @@ ghost use Rattle.amqp_endpoint_messages.specs.Sending.{StaysBehind, with_tag};
 
 use crate::cutting::cut;
 use crate::preparing::{commit_in, lower_room_in, prepare_in, room_for};
+use crate::sending_at_once::send_at_once;
 use amqp_endpoint_attached::LinkSession;
 use amqp_endpoint_links::Numbered;
 use amqp_endpoint_model::{EndpointError, Sending};
@@ -48,6 +49,30 @@ pub fn send(
     ensures asked { session.new.asked ≡ session.old.asked }
     ensures capacity { deque_capacity out.old ≤ deque_capacity out.new }
 {
+    match send_at_once(session, limit, handle, &tag, message, out) {
+        Some(settled) => Ok(settled),
+        None => send_cut(session, alloc, limit, handle, tag, message, out),
+    }
+}
+
+/// The same, in the general way: the message is made ready, cut, and handed to its session as a batch.
+#[inline(never)]
+fn send_cut(
+    session: &mut LinkSession,
+    alloc: Global,
+    limit: u32,
+    handle: OutputHandle,
+    tag: DeliveryTag,
+    message: &Sending,
+    out: &mut VecDeque<SessionFrame>,
+) -> Result<bool, EndpointError>
+    ensures answer { SendAnswered session.old limit handle (with_tag tag message.now) result out.old.items session.new
+        out.new.items }
+    ensures kept { OnErr result ((session.new ≡ session.old) × (out.new.items ≡ out.old.items)) }
+    ensures frame { 512 ≤ limit → length tag ≤ 32 → result ≢ Err EndpointError.FrameTooLarge }
+    ensures asked { session.new.asked ≡ session.old.asked }
+    ensures capacity { deque_capacity out.old ≤ deque_capacity out.new }
+{
     numbers_are_read(handle, message);
     let room = match room_for(&session.session, handle, &tag, message.payload.len()) {
         Ok(room) => room,
@@ -66,7 +91,7 @@ pub fn send(
 }
 
 /// The number of a handle, and that of a message's format, are those of a uint (part 2, 2.8.4, 2.8.11).
-fn numbers_are_read(handle: OutputHandle, message: &Sending)
+pub(crate) fn numbers_are_read(handle: OutputHandle, message: &Sending)
     ensures handle { handle.0 < 2 ^ 32 }
     ensures format { message.now.message_format < 2 ^ 32 }
 {

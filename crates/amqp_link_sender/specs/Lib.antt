@@ -6,6 +6,7 @@ pub mod Lends
 pub mod Results
 pub mod Payloads
 pub mod Sends
+pub mod ReadiesAtOnce
 pub mod SendsOn
 pub mod Splitting
 pub mod Room

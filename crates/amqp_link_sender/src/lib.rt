@@ -2,8 +2,8 @@
 //! receiver make of it (part 2, 2.6), and how messages are cut into transfers, each of which fits in a frame (part 2,
 //! 2.6.14).
 //!
-//! What each call does says specs/: Sending, Attaching, Sends, SendsOn, Dispositions, Ending. What comes of a cut
-//! message says `Splits` in specs/Splitting.antt, and how much fits in a frame specs/Room.antt.
+//! What each call does says specs/: Sending, Attaching, Sends, ReadiesAtOnce, SendsOn, Dispositions, Ending. What comes
+//! of a cut message says `Splits` in specs/Splitting.antt, and how much fits in a frame specs/Room.antt.
 #![tactic(auto)]
 
 mod attaching;
@@ -15,6 +15,7 @@ mod link;
 mod payloads;
 mod results;
 mod sending;
+mod sending_at_once;
 mod sending_on;
 mod splitting;
 
@@ -24,5 +25,6 @@ pub use link::{Counts, SenderLink};
 pub use payloads::PreparedBatch;
 pub use results::SendResult;
 pub use sending::{PreparedSend, SendRefusal};
+pub use sending_at_once::ReadyAtOnce;
 pub use sending_on::PreparedSendOn;
 pub use splitting::{SplitRefusal, split};

@@ -2,6 +2,7 @@ pub mod Tables
 pub mod Leading
 pub mod Taking
 pub mod AtOnce
+pub mod SentAtOnce
 pub mod Handing
 pub mod Owning
 pub mod Keeping
@@ -18,5 +19,6 @@ pub mod Echoing
 pub mod Running
 pub mod Settling
 pub mod Walking
+pub mod OneSettled
 pub mod Batches
 pub mod Linking

@@ -47,7 +47,7 @@ pub record ForgottenEach (range : DeliveryRange) (table : Table) : Type 0 where
   pub same : outside range table ≡ without table numbers
 
 -- what isn't there is taken out
-taken-none : (t : Table) (key : ℕ) → tables.get t key ≡ None → tables.remove t key ≡ t
+pub taken-none : (t : Table) (key : ℕ) → tables.get t key ≡ None → tables.remove t key ≡ t
 taken-none t key none = same_tables _ _ (λ q. get-take t key q ∙ by q (eqb_tells q key))
   where
     by : (q : ℕ) → (((q == key) ≡ true) × (q ≡ key)) ⊎ (((q == key) ≡ false) × (q ≢ key)) → cond (q == key) None (tables.get t q) ≡ tables.get t q

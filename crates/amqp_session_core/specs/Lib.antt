@@ -14,6 +14,8 @@ pub mod Refusals
 pub mod Told
 pub mod AtOnce
 pub mod ToldAtOnce
+pub mod OneSettled
+pub mod SendsAtOnce
 pub mod History
 pub mod Vacant
 pub mod Lends

@@ -286,7 +286,7 @@ fn walk<R: LinkRelay>(
 }
 
 /// A delivery reaches its link. Where that is gone, nothing changes.
-fn reach_one<R: LinkRelay>(
+pub(crate) fn reach_one<R: LinkRelay>(
     links: &mut Slab<R>,
     delivery: Option<&Delivery>,
     disposition: &Disposition,

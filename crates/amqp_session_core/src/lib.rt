@@ -19,7 +19,9 @@ mod over;
 mod relay;
 mod routes;
 mod sending;
+mod sending_at_once;
 mod session;
+mod settled;
 mod state;
 
 pub use at_once::TakenAtOnce;
@@ -31,4 +33,5 @@ pub use links::Unallocated;
 pub use over::Links;
 pub use relay::{LinkOwner, LinkRelay, Registration, RelayError, TransferAnswer};
 pub use session::Session;
+pub use settled::SettledAtOnce;
 pub use state::SessionState;

@@ -1,6 +1,7 @@
 pub mod Noding
 pub mod Turning
 pub mod Passing
+pub mod Alone
 pub mod Joining
 pub mod Standing
 pub mod Changing

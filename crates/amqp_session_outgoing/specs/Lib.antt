@@ -3,6 +3,7 @@ pub mod Queues
 pub mod State
 pub mod Fields
 pub mod History
+pub mod PassesAtOnce
 pub mod Told
 pub mod Turns
 pub mod Nodes

@@ -14,6 +14,7 @@ mod frames;
 pub mod laws;
 mod nodes;
 mod outgoing;
+mod passing_at_once;
 mod place;
 mod range;
 mod spots;

@@ -31,13 +31,13 @@ use std::marker::Model;
 /// stands last if a transfer of it still waits. A delivery gets its number as its first transfer leaves.
 pub struct Outgoing<T, F> {
     initial_outgoing_id: u32,
-    next_outgoing_id: u32,
-    next_delivery_number: u32,
+    pub(crate) next_outgoing_id: u32,
+    pub(crate) next_delivery_number: u32,
     window_base: u32,
     window_width: u32,
     firsts: usize,
-    turns: Turns<T, F>,
-    unsettled: Unsettled,
+    pub(crate) turns: Turns<T, F>,
+    pub(crate) unsettled: Unsettled,
 }
 
 impl<T: Drop, F: Drop> Drop for Outgoing<T, F> {
@@ -479,6 +479,14 @@ impl<T: Drop, F: Drop> Outgoing<T, F> {
         self.unsettled.settle(number);
     }
 
+    /// Settles a delivery that left, if one of this number is unsettled, and hands it out (part 2, 2.6.12).
+    pub fn take_settled(&mut self, number: u32) -> Option<Delivery>
+        ensures delivery { result ≡ map.get self.old.unsettled number }
+        ensures settled { Step self.old (Settles number) self.new }
+    {
+        self.unsettled.take(number)
+    }
+
     /// Settles the deliveries that left and that a disposition names (part 2, 2.6.12 and 2.7.6). It takes no memory, and
     /// time by the range or by the deliveries that there are, whichever are fewer.
     pub fn settle_range(&mut self, range: DeliveryRange)
@@ -504,7 +512,7 @@ impl<T: Drop, F: Drop> Outgoing<T, F> {
 
     /// Nothing waits, and the peer's window takes so many transfers more.
     #[inline(always)]
-    fn lets_through(&self, count: usize) -> bool
+    pub(crate) fn lets_through(&self, count: usize) -> bool
         ensures { IsTrue result ↔ ((self.now.queues ≡ []) × (count ≤ window_left self.now)) }
     {
         let used = self.next_outgoing_id.wrapping_sub(self.window_base);
@@ -517,7 +525,7 @@ impl<T: Drop, F: Drop> Outgoing<T, F> {
 
     /// The number of the delivery that begins behind so many others is no other's.
     #[inline(always)]
-    fn is_free(&self, others: usize) -> bool
+    pub(crate) fn is_free(&self, others: usize) -> bool
         ensures { IsTrue result ↔ IsFree self.now others }
     {
         match u32::try_from(others) {

@@ -103,6 +103,15 @@ impl Unsettled {
         let _ = self.deliveries.swap_remove(&number);
     }
 
+    /// Takes a delivery out, if there is one of this number, and hands it out.
+    #[tactic(auto, using(crate::proofs::Tables::rules))]
+    pub fn take(&mut self, number: u32) -> Option<Delivery>
+        ensures delivery { result ≡ map.get self.old.table number }
+        ensures rest { self.new ≡ record self.old { table = map.remove self.old.table number } }
+    {
+        self.deliveries.swap_remove(&number)
+    }
+
     /// Registers a delivery. It takes the place of an earlier one of its number. It is refused where there is no memory,
     /// and nothing changes then.
     pub fn register(&mut self, number: u32, delivery: Delivery) -> Result<(), AllocError>
