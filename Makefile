@@ -42,11 +42,11 @@ test:
 
 # The same, and then what it took of a processor, by crate and kind.
 time:
-	@tools/gate_time
+	@tools/proving/gate_time
 
 # The edits that the gate leaves out for time. They take hours; CRATES names those to try.
 edits:
-	@tools/try_edits $(CRATES)
+	@tools/proving/try_edits $(CRATES)
 
 # Counts the instructions that an endpoint takes, by valgrind. The program is built once, and nothing is proved.
 bench:
