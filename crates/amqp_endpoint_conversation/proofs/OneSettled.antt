@@ -83,7 +83,8 @@ module _ {R A T D : Type 0} (gives : Relations R A T D) (old new : Conversation 
         reaches = took.reaches;
         answered =
             in_live gives old [] channel (said.Disposition d) (Ok (heard.Live number answer)) new [] number here
-            (unasked old.sessions number l.before l.live) (ap (λ (o : Option (Box (AskingSession R))). is_some o) l.live)
+            (unasked old.sessions number l.before l.live)
+            (ap (λ (o : Option (Box (AskingSession R))). is_some o) l.live)
             (λ session live.
             subst (λ (s : Box (AskingSession R)). LiveAnswered gives old [] number s (said.Disposition d)
             (Ok (heard.Live number answer)) new []) (same_Some _ _ (sym l.live ∙ live)) (

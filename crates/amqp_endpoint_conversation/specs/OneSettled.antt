@@ -55,7 +55,8 @@ module _ {R A T D : Type 0} (gives : Relations R A T D) where
         new []
 
   -- or nothing changes
-  abbrev pub SettlesAtOnce : Conversation R → IncomingChannel → Disposition → Option (ℕ × SettledAtOnce) → Conversation R
+  abbrev pub SettlesAtOnce : Conversation R → IncomingChannel → Disposition → Option (ℕ × SettledAtOnce)
+      → Conversation R
       → Type 0
   SettlesAtOnce old channel d None new = new ≡ old
   SettlesAtOnce old channel d (Some it) new = SettlesWhole old channel d it.0 it.1 new

@@ -1,8 +1,10 @@
 -- Laws of what waits as it is written one behind the other.
 use Rattle.std.proofs.Common.{◌≡◌, ℕ, ◌+◌, ◌≤◌, ◌<◌, zero, suc, List, [], ◌∷◌, ◌++◌, length, map, take, drop, Option}
-use Rattle.std.proofs.Common.{Some, None, true, refl, sym, ap, arith, subst, append_assoc, append-nil, ◌∙◌, slice_index_or}
+use Rattle.std.proofs.Common.{Some, None, true, refl, sym, ap, arith, subst, append_assoc, append-nil, ◌∙◌}
+use Rattle.std.proofs.Common.{slice_index_or}
 use Rattle.std.proofs.lemmas.Bool.Decides.{nat_tests}
-use Rattle.std.proofs.lemmas.List.{length-append, length-map, take_more, take_all, take-append-le, drop_all, drop-append-le}
+use Rattle.std.proofs.lemmas.List.{length-append, length-map, take_more, take_all, take-append-le, drop_all}
+use Rattle.std.proofs.lemmas.List.{drop-append-le}
 use Rattle.std.proofs.lemmas.List.{drop-map, get_or-map, get_or_append_left, map-id, take-take, take_at}
 use Rattle.amqp_session_performatives.specs.declared.session_frame.SessionFrame.{SessionFrame}
 use Rattle.amqp_session_frames.specs.Text.{frame_text}
@@ -235,7 +237,8 @@ dropped_both queue out n zero there all =
 dropped_both queue out n (suc m) there all =
     let long : n ≡ length queue = all (omega arith) in
     ap (λ (ws : List Waiting). ws ++ frames_waiting (drop (suc m) out)) (drop_all n queue (omega (arith, long)))
-    ∙ sym (drop-map waiting_of (suc m) out) ∙ sym (drop-behind queue (frames_waiting out) (suc m) (n + suc m) (omega (arith, long)))
+    ∙ sym (drop-map waiting_of (suc m) out)
+    ∙ sym (drop-behind queue (frames_waiting out) (suc m) (n + suc m) (omega (arith, long)))
 
 within_dropped : (limit : ℕ) (ws : List Waiting) (n : ℕ) → AllWithin limit ws → AllWithin limit (drop n ws)
 within_dropped limit ws zero all = all

@@ -58,7 +58,8 @@ module _ (old : Talk) (channel : IncomingChannel) (d : Disposition) (session : â
       (record { handle = (it.delivery).handle; tag = (it.delivery).tag }) d ((w.stood).value.session).links
       ((w.after).value.session).links it.is_echoed w.is_settled w.reaches
 
-  answered : Answered gives old [] channel (said.Disposition d) (Ok (Live session (taken.Disposition d (few_runs [])))) mid
+  answered : Answered gives old [] channel (said.Disposition d)
+      (Ok (Live session (taken.Disposition d (few_runs [])))) mid
       []
   answered =
       subst

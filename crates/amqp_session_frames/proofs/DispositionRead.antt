@@ -1,5 +1,6 @@
 -- A Disposition in its common form is read by hand.
-use Rattle.std.proofs.Common.{◌≡◌, ℕ, ◌+◌, ◌≤◌, List, [], ◌∷◌, ◌++◌, length, drop, get_or, Bool, false, Option, Some, None, refl, sym, ◌∙◌, ap, subst, arith}
+use Rattle.std.proofs.Common.{◌≡◌, ℕ, ◌+◌, ◌≤◌, List, [], ◌∷◌, ◌++◌, length, drop, get_or, Bool, false, Option}
+use Rattle.std.proofs.Common.{Some, None, refl, sym, ◌∙◌, ap, subst, arith}
 use Rattle.std.specs.Prelude.{unwrap_or}
 use Rattle.serde_amqp_item.specs.Item.{Item, Items, scalar, boolean, null, uint, ulong, list, described, no_items, more_items, item_count}
 use Rattle.serde_amqp_item.specs.Record.{option_item, record_item}
@@ -79,8 +80,11 @@ all_taken b first last settled o =
     let lasts : List Item = option_item (λ n. scalar (uint n)) last ∷ settles in
     taken_more boolean_taken one (scalar (boolean b)) (scalar (boolean b)) numbered (scalar (uint first) ∷ lasts) refl
     (taken_more uint_taken two (scalar (uint first)) (scalar (uint first)) lasting lasts refl
-    (taken_more (option_taken uint_taken) three (option_item (λ n. scalar (uint n)) last) (option_item (λ n. scalar (uint n)) last) settling settles (uint_or_null_taken last)
-    (taken_more flag four (flag_item settled) (or_null (is_boolean false) (scalar (boolean (unwrap_or settled false)))) state states (flag_or_false_taken settled)
+    (taken_more (option_taken uint_taken) three (option_item (λ n. scalar (uint n)) last)
+    (option_item (λ n. scalar (uint n)) last) settling settles (uint_or_null_taken last)
+    (taken_more flag four (flag_item settled)
+    (or_null (is_boolean false) (scalar (boolean (unwrap_or settled false)))) state states
+    (flag_or_false_taken settled)
     (taken_more (option_taken delivery_state_taken) (flag ∷ []) (bare_item o) (delivery_state_item (state_of o)) no_items (scalar null ∷ []) (outcome_taken o) refl))))
 
 -- ---- the body

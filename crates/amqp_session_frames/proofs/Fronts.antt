@@ -6,7 +6,8 @@ use Rattle.std.proofs.lemmas.List.{length-take-le, take_all}
 use Rattle.std.specs.Int.{w32, w64, from_be_bytes}
 use Rattle.std.specs.Str.{IsUtf8}
 use Rattle.std.proofs.lemmas.Str.{is_utf8-from_IsUtf8}
-use Rattle.serde_amqp_item.specs.Item.{Item, Items, scalar, boolean, null, ubyte, uint, ulong, binary, string, list, described, more_items, item_count}
+use Rattle.serde_amqp_item.specs.Item.{Item, Items, scalar, boolean, null, ubyte, uint, ulong, binary, string}
+use Rattle.serde_amqp_item.specs.Item.{list, described, more_items, item_count}
 use Rattle.serde_amqp_item.specs.Wire.{Form, Forms, IsCapped, IsStrict, Wire, row_of, code_of}
 use Rattle.amqp_session_performatives.specs.Performative.{performative_item, performative_taken}
 use Rattle.amqp_session_performatives.specs.declared.performative.Performative.{Performative}
@@ -56,16 +57,22 @@ ulong_wide_form n bytes rest f =
       form = (f.long, ap (λ (k : ℕ). Some (ulong k)) (sym f.value));
     }
 
-pub ulong_zero : (bytes rest : List ℕ) (code : ℕ) → bytes ≡ code ∷ rest → code ≡ 0x44 → Front (scalar (ulong 0)) bytes rest
-ulong_zero bytes rest code is zero = moved (scalar (ulong 0)) bytes (0x44 ∷ rest) rest (is ∙ ap (λ (k : ℕ). k ∷ rest) zero) (ulong_zero_form rest)
+pub ulong_zero : (bytes rest : List ℕ) (code : ℕ) → bytes ≡ code ∷ rest → code ≡ 0x44
+    → Front (scalar (ulong 0)) bytes rest
+ulong_zero bytes rest code is zero = moved (scalar (ulong 0)) bytes (0x44 ∷ rest) rest
+    (is ∙ ap (λ (k : ℕ). k ∷ rest) zero) (ulong_zero_form rest)
 
-pub ulong_small : (bytes behind rest : List ℕ) (code n : ℕ) → bytes ≡ code ∷ behind → code ≡ 0x53 → behind ≡ n ∷ rest → Front (scalar (ulong n)) bytes rest
+pub ulong_small : (bytes behind rest : List ℕ) (code n : ℕ) → bytes ≡ code ∷ behind → code ≡ 0x53
+    → behind ≡ n ∷ rest → Front (scalar (ulong n)) bytes rest
 ulong_small bytes behind rest code n is small next =
-    moved (scalar (ulong n)) bytes (0x53 ∷ n ∷ rest) rest (is ∙ ap (λ (k : ℕ). k ∷ behind) small ∙ ap (λ (l : List ℕ). 0x53 ∷ l) next) (ulong_small_form n rest)
+    moved (scalar (ulong n)) bytes (0x53 ∷ n ∷ rest) rest
+    (is ∙ ap (λ (k : ℕ). k ∷ behind) small ∙ ap (λ (l : List ℕ). 0x53 ∷ l) next) (ulong_small_form n rest)
 
-pub ulong_wide : (bytes behind rest : List ℕ) (code n : ℕ) → bytes ≡ code ∷ behind → code ≡ 0x80 → EightFront n behind rest → Front (scalar (ulong n)) bytes rest
+pub ulong_wide : (bytes behind rest : List ℕ) (code n : ℕ) → bytes ≡ code ∷ behind → code ≡ 0x80
+    → EightFront n behind rest → Front (scalar (ulong n)) bytes rest
 ulong_wide bytes behind rest code n is wide f =
-    moved (scalar (ulong n)) bytes (0x80 ∷ behind) rest (is ∙ ap (λ (k : ℕ). k ∷ behind) wide) (ulong_wide_form n behind rest f)
+    moved (scalar (ulong n)) bytes (0x80 ∷ behind) rest (is ∙ ap (λ (k : ℕ). k ∷ behind) wide)
+    (ulong_wide_form n behind rest f)
 
 pub ruleset ulong_forms = (ulong_zero, ulong_small, ulong_wide)
 
@@ -87,7 +94,8 @@ pub left_behind : (n : ℕ) (bytes : List ℕ) → take (length bytes - n) (drop
 left_behind n bytes = take_all (length bytes - n) (drop n bytes) (omega (arith, length-drop n bytes))
 
 -- the first four bytes
-pub four_first : (bytes : List ℕ) → 4 ≤ length bytes → bytes ≡ get_or bytes 0 0 ∷ get_or bytes 1 0 ∷ get_or bytes 2 0 ∷ get_or bytes 3 0 ∷ drop 4 bytes
+pub four_first : (bytes : List ℕ) → 4 ≤ length bytes
+    → bytes ≡ get_or bytes 0 0 ∷ get_or bytes 1 0 ∷ get_or bytes 2 0 ∷ get_or bytes 3 0 ∷ drop 4 bytes
 four_first (a ∷ b ∷ c ∷ d ∷ rest) le = refl
 four_first (a ∷ b ∷ c ∷ []) le = absurd (omega arith)
 four_first (a ∷ b ∷ []) le = absurd (omega arith)
@@ -109,7 +117,8 @@ four_found bytes rest n le is behind =
 
 -- the first eight bytes
 eight_first : (bytes : List ℕ) → 8 ≤ length bytes
-    → bytes ≡ get_or bytes 0 0 ∷ get_or bytes 1 0 ∷ get_or bytes 2 0 ∷ get_or bytes 3 0 ∷ get_or bytes 4 0 ∷ get_or bytes 5 0 ∷ get_or bytes 6 0 ∷ get_or bytes 7 0 ∷ drop 8 bytes
+    → bytes ≡ get_or bytes 0 0 ∷ get_or bytes 1 0 ∷ get_or bytes 2 0 ∷ get_or bytes 3 0 ∷ get_or bytes 4 0 ∷ get_or
+    bytes 5 0 ∷ get_or bytes 6 0 ∷ get_or bytes 7 0 ∷ drop 8 bytes
 eight_first (a ∷ b ∷ c ∷ d ∷ e ∷ f ∷ g ∷ h ∷ rest) le = refl
 eight_first (a ∷ b ∷ c ∷ d ∷ e ∷ f ∷ g ∷ []) le = absurd (omega arith)
 eight_first (a ∷ b ∷ c ∷ d ∷ e ∷ f ∷ []) le = absurd (omega arith)
@@ -122,7 +131,8 @@ eight_first [] le = absurd (omega arith)
 
 abbrev eight_of : List ℕ → List ℕ
 eight_of bytes =
-    get_or bytes 0 0 ∷ get_or bytes 1 0 ∷ get_or bytes 2 0 ∷ get_or bytes 3 0 ∷ get_or bytes 4 0 ∷ get_or bytes 5 0 ∷ get_or bytes 6 0 ∷ get_or bytes 7 0 ∷ []
+    get_or bytes 0 0 ∷ get_or bytes 1 0 ∷ get_or bytes 2 0 ∷ get_or bytes 3 0 ∷ get_or bytes 4 0 ∷ get_or bytes 5 0
+    ∷ get_or bytes 6 0 ∷ get_or bytes 7 0 ∷ []
 
 pub eight_found : (bytes rest : List ℕ) (n : ℕ) → 8 ≤ length bytes
     → n ≡ from_be_bytes w64 (eight_of bytes)
@@ -136,7 +146,8 @@ eight_found bytes rest n le is behind =
     }
 
 -- a string
-pub string_form : (bytes behind content text rest : List ℕ) (code : ℕ) → bytes ≡ code ∷ behind → code ≡ 0xa1 → Counted content behind rest
+pub string_form : (bytes behind content text rest : List ℕ) (code : ℕ) → bytes ≡ code ∷ behind → code ≡ 0xa1
+    → Counted content behind rest
     → text ≡ content → IsUtf8 content → Front (scalar (string text)) bytes rest
 unfolding row_of code_of
 string_form bytes behind content text rest code is str8 f same utf8 =
@@ -147,7 +158,8 @@ string_form bytes behind content text rest code is str8 f same utf8 =
       form = (
         content,
         record { fits = f.fits; whole = refl },
-        ap (λ (b : Bool). if b then Some (string content) else None) (is_utf8-from_IsUtf8 content utf8) ∙ ap (λ (l : List ℕ). Some (string l)) (sym same),
+        ap (λ (b : Bool). if b then Some (string content) else None) (is_utf8-from_IsUtf8 content utf8)
+            ∙ ap (λ (l : List ℕ). Some (string l)) (sym same),
       );
     }
 
@@ -192,9 +204,11 @@ ubyte_form : (n : ℕ) (rest : List ℕ) → Front (scalar (ubyte n)) (0x50 ∷ 
 unfolding row_of code_of
 ubyte_form n rest = record { code = 0x50; text = n ∷ []; whole = refl; form = (refl, refl) }
 
-pub ubyte_front : (bytes behind rest : List ℕ) (code n : ℕ) → bytes ≡ code ∷ behind → code ≡ 0x50 → behind ≡ n ∷ rest → Front (scalar (ubyte n)) bytes rest
+pub ubyte_front : (bytes behind rest : List ℕ) (code n : ℕ) → bytes ≡ code ∷ behind → code ≡ 0x50
+    → behind ≡ n ∷ rest → Front (scalar (ubyte n)) bytes rest
 ubyte_front bytes behind rest code n is at next =
-    moved (scalar (ubyte n)) bytes (0x50 ∷ n ∷ rest) rest (is ∙ ap (λ (k : ℕ). k ∷ behind) at ∙ ap (λ (l : List ℕ). 0x50 ∷ l) next) (ubyte_form n rest)
+    moved (scalar (ubyte n)) bytes (0x50 ∷ n ∷ rest) rest
+    (is ∙ ap (λ (k : ℕ). k ∷ behind) at ∙ ap (λ (l : List ℕ). 0x50 ∷ l) next) (ubyte_form n rest)
 
 pub ruleset ubyte_forms = (null_front, ubyte_front)
 

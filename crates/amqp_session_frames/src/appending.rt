@@ -58,8 +58,8 @@ impl FrameEncoder {
         }
     }
 
-    /// Appends what a session hands out to `out`, as [`append`](FrameEncoder::append) does the frame that says the same.
-    /// It is written where it lies.
+    /// Appends what a session hands out to `out`, as [`append`](FrameEncoder::append) does the frame that says the
+    /// same. It is written where it lies.
     pub fn append_sent(
         &self,
         alloc: Global,

@@ -12,8 +12,8 @@
 //! a frame that was written is read back, and that a stream is read in one way, are laws: see [`laws`].
 //!
 //! A Transfer and a Disposition in their common forms, as nearly all of them are, are read and written by hand, in
-//! common_transfer.rt and common_disposition.rt, and an Attach is read so, in common_attach.rt. What is read and written is
-//! the same.
+//! common_transfer.rt and common_disposition.rt, and an Attach is read so, in common_attach.rt. What is read and written
+//! is the same.
 //!
 //! What a call of a [`Connection`] does says `Step` in specs/Steps.antt; which call leads from which state to which
 //! says specs/Table.antt.

@@ -1,5 +1,6 @@
 -- A transfer that is all of its delivery passes as a batch of it alone does.
-use Rattle.std.proofs.Common.{◌≡◌, ℕ, ◌+◌, ◌-◌, ◌<◌, ◌≤◌, ◌%◌, ◌^◌, arith, List, [], ◌∷◌, refl, sym, ap, subst, Option, Some, None}
+use Rattle.std.proofs.Common.{◌≡◌, ℕ, ◌+◌, ◌-◌, ◌<◌, ◌≤◌, ◌%◌, ◌^◌, arith, List, [], ◌∷◌, refl, sym, ap, subst}
+use Rattle.std.proofs.Common.{Option, Some, None}
 use Rattle.amqp_session_types.specs.declared.handles.OutputHandle.{OutputHandle}
 use Rattle.amqp_session_outgoing.specs.Frames.{HasTag, first_count}
 use Rattle.amqp_session_outgoing.specs.Queues.{Queues, TakesTurn, firsts_in, held_in, joined}

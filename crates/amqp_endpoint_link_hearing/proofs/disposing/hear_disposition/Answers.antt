@@ -67,7 +67,8 @@ returns-clause-kept c =
     let same = c.hear_settled.ensures.none c.if-hear_settled.false in
     subst
     (λ (told : List Event).
-    OnErr c.hear_any.result ((c.hear_any.new.links ≡ c.args.links.now) × (c.hear_any.new.out.items ≡ c.args.out.now.items)
+    OnErr c.hear_any.result ((c.hear_any.new.links ≡ c.args.links.now)
+    × (c.hear_any.new.out.items ≡ c.args.out.now.items)
     × (c.hear_any.new.events.items ≡ told)))
     (same.1 ∙ c.reserve.ensures.items) c.hear_any.ensures.kept
 

@@ -23,7 +23,8 @@ returns-in-Some-settles_at_once g c =
           c.deref_mut.ensures.value c.in-Some-settles_at_once.ensures;
       becomes =
           ap (λ (s : AskingSession g.row.R.Denot). record c.args.self.now
-          { sessions = set_live old c.args.number (with_value lent (record s { session = after })) }) c.deref_mut.ensures.value;
+          { sessions = set_live old c.args.number (with_value lent (record s { session = after })) })
+          c.deref_mut.ensures.value;
     }
 
 pub returns-in-None : goal.returns-in-None
@@ -31,8 +32,10 @@ returns-in-None g c =
     let old = c.args.self.now.sessions in
     let lent = c.in-Some.session.now in
     ap (λ (s : State g.row.R.Denot). record c.args.self.now
-    { sessions = set_live old c.args.number (with_value lent (record c.deref_mut.result.now { session = s })) }) c.in-None.ensures
-    ∙ ap (λ (s : AskingSession g.row.R.Denot). record c.args.self.now { sessions = set_live old c.args.number (with_value lent s) })
+    { sessions = set_live old c.args.number (with_value lent (record c.deref_mut.result.now { session = s })) })
+    c.in-None.ensures
+    ∙ ap (λ (s : AskingSession g.row.R.Denot). record c.args.self.now
+    { sessions = set_live old c.args.number (with_value lent s) })
     c.deref_mut.ensures.value
     ∙ ap (λ (ss : Sessions g.row.R.Denot). record c.args.self.now { sessions = ss })
     (unlent old c.args.number lent (sym c.in-Some.ensures.value))

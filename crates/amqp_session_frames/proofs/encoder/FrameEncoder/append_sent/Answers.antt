@@ -22,7 +22,8 @@ returns-in-Attach c =
     record {
       ok = IfOk-weaker c.append_whole-in-Attach.result _ _
           (λ v w. whole_appended c.args.self.now c.args.room (frame_of c.args.frame.now) _
-          (performing.Attach c.in-Attach.attach) _ v _ _ (ap body_of c.in-Attach.is) refl refl w) c.append_whole-in-Attach.ensures.ok;
+          (performing.Attach c.in-Attach.attach) _ v _ _ (ap body_of c.in-Attach.is) refl refl w)
+          c.append_whole-in-Attach.ensures.ok;
       refused = IfErr-weaker c.append_whole-in-Attach.result _ _
           (λ e r. not_appended c.args.self.now (frame_of c.args.frame.now) _ (performing.Attach c.in-Attach.attach) _ e
           (ap body_of c.in-Attach.is) refl refl r) c.append_whole-in-Attach.ensures.refused;
@@ -34,7 +35,8 @@ returns-in-Flow c =
     record {
       ok = IfOk-weaker c.append_whole-in-Flow.result _ _
           (λ v w. whole_appended c.args.self.now c.args.room (frame_of c.args.frame.now) _
-          (performing.Flow c.in-Flow.flow) _ v _ _ (ap body_of c.in-Flow.is) refl refl w) c.append_whole-in-Flow.ensures.ok;
+          (performing.Flow c.in-Flow.flow) _ v _ _ (ap body_of c.in-Flow.is) refl refl w)
+          c.append_whole-in-Flow.ensures.ok;
       refused = IfErr-weaker c.append_whole-in-Flow.result _ _
           (λ e r. not_appended c.args.self.now (frame_of c.args.frame.now) _ (performing.Flow c.in-Flow.flow) _ e
           (ap body_of c.in-Flow.is) refl refl r) c.append_whole-in-Flow.ensures.refused;
@@ -46,9 +48,11 @@ returns-in-Transfer c =
     record {
       ok = IfOk-weaker c.append_transfer.result _ _
           (λ v w. whole_appended c.args.self.now c.args.room (frame_of c.args.frame.now) _
-          (performing.Transfer c.in-Transfer.performative) _ v _ _ (ap body_of c.in-Transfer.is) refl c.as_slice.ensures w) c.append_transfer.ensures.ok;
+          (performing.Transfer c.in-Transfer.performative) _ v _ _ (ap body_of c.in-Transfer.is) refl
+          c.as_slice.ensures w) c.append_transfer.ensures.ok;
       refused = IfErr-weaker c.append_transfer.result _ _
-          (λ e r. not_appended c.args.self.now (frame_of c.args.frame.now) _ (performing.Transfer c.in-Transfer.performative) _ e
+          (λ e r. not_appended c.args.self.now (frame_of c.args.frame.now) _
+          (performing.Transfer c.in-Transfer.performative) _ e
           (ap body_of c.in-Transfer.is) refl c.as_slice.ensures r) c.append_transfer.ensures.refused;
       same = c.append_transfer.ensures.same;
     }
@@ -58,9 +62,11 @@ returns-in-Disposition c =
     record {
       ok = IfOk-weaker c.append_disposition.result _ _
           (λ v w. whole_appended c.args.self.now c.args.room (frame_of c.args.frame.now) _
-          (performing.Disposition c.in-Disposition.disposition) _ v _ _ (ap body_of c.in-Disposition.is) refl refl w) c.append_disposition.ensures.ok;
+          (performing.Disposition c.in-Disposition.disposition) _ v _ _ (ap body_of c.in-Disposition.is) refl refl
+          w) c.append_disposition.ensures.ok;
       refused = IfErr-weaker c.append_disposition.result _ _
-          (λ e r. not_appended c.args.self.now (frame_of c.args.frame.now) _ (performing.Disposition c.in-Disposition.disposition) _ e
+          (λ e r. not_appended c.args.self.now (frame_of c.args.frame.now) _
+          (performing.Disposition c.in-Disposition.disposition) _ e
           (ap body_of c.in-Disposition.is) refl refl r) c.append_disposition.ensures.refused;
       same = c.append_disposition.ensures.same;
     }
@@ -70,7 +76,8 @@ returns-in-Detach c =
     record {
       ok = IfOk-weaker c.append_whole-in-Detach.result _ _
           (λ v w. whole_appended c.args.self.now c.args.room (frame_of c.args.frame.now) _
-          (performing.Detach c.in-Detach.detach) _ v _ _ (ap body_of c.in-Detach.is) refl refl w) c.append_whole-in-Detach.ensures.ok;
+          (performing.Detach c.in-Detach.detach) _ v _ _ (ap body_of c.in-Detach.is) refl refl w)
+          c.append_whole-in-Detach.ensures.ok;
       refused = IfErr-weaker c.append_whole-in-Detach.result _ _
           (λ e r. not_appended c.args.self.now (frame_of c.args.frame.now) _ (performing.Detach c.in-Detach.detach) _ e
           (ap body_of c.in-Detach.is) refl refl r) c.append_whole-in-Detach.ensures.refused;
